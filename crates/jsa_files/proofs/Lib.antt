@@ -1,0 +1,4 @@
+pub mod MemoryStore
+pub mod Taken
+pub mod WholeReads
+pub mod WholeWrites
