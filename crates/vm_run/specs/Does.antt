@@ -1,0 +1,33 @@
+-- What the machine's code did, against the definition.
+use Rattle.std.specs.Prelude.{◌≡◌, ℕ, ℤ, List, [], ◌∷◌, ◌++◌, Option, Some, None}
+use Rattle.vm_run.specs.declared.machine.Frame.{Frame}
+use Rattle.vm_run.specs.declared.machine.End.{End}
+use Rattle.vm_run.specs.declared.machine.Machine.{Machine}
+use Rattle.vm_run.specs.declared.rows.Did.{Did}
+use Rattle.vm_run.specs.declared.rows.Did.TheVariants as did
+use Rattle.vm_run.specs.Machine.{Row, Next, Puts, Returns, NoRow, State, line_of}
+
+-- The row is what was done to the stack.
+abbrev pub Does : Row → Did → (old new : List ℤ) → Type 0
+Does r did.Next old new = r ≡ Next new
+Does r (did.Puts n) old new = r ≡ Puts new (line_of n)
+Does r did.Returns old new = r ≡ Returns
+Does r did.NoRow old new = (r ≡ NoRow) × (new ≡ old)
+
+-- the text of the number that a turn puts, if it puts one
+abbrev pub text_of : Option ℤ → List ℕ
+text_of None = []
+text_of (Some n) = line_of n
+
+-- what was put after it, from what was put before
+abbrev pub out_after : List ℕ → Option ℤ → List ℕ
+out_after out None = out
+out_after out (Some n) = out ++ line_of n
+
+-- the state of a machine, from what it put so far and its end
+abbrev pub state_of : Machine → List ℕ → Option End → State
+state_of m out end = record { frames = m.frames; class = m.class; out = out; turns = m.turns; end = end }
+
+-- the state of a machine from which the current frame was taken
+abbrev pub state_with : Frame → Machine → List ℕ → State
+state_with top m out = record { frames = top ∷ m.frames; class = m.class; out = out; turns = m.turns; end = None }
