@@ -1,0 +1,10 @@
+use Rattle.std.proofs.Common.{◌≡◌, ◌-◌, ◌≤◌, length}
+use Rattle.classfile_reader.specs.Program.{instructions_in}
+use Rattle.classfile_reader.proofs.Loop.{whole_with_front}
+use Rattle.classfile_reader.proofs.program_reading.instructions.Given as goal
+
+abbrev pub invariant-loop : goal.invariant-loop
+invariant-loop l = record {
+  read : whole_with_front l.instructions (instructions_in l.p (length l.code - l.counter) l.cursor) ≡ instructions_in l.p (length l.code) l.code;
+  few : length l.instructions ≤ l.counter;
+}
