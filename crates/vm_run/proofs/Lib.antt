@@ -1,0 +1,4 @@
+pub mod NoRows
+pub mod Runs
+pub mod Fronts
+pub mod Exits
