@@ -1,0 +1,281 @@
+// Whole commands over a store and sinks in memory.
+use crate::command::run_command;
+use crate::ended::{Ended, status};
+use crate::test_classes::{ACCEPTED, PUTS_42_AND_MINUS_1, REFUSED};
+use jsa_base::Quantity;
+use jsa_files::{MAX_FILE, MemoryFiles, MemorySink};
+use std::alloc::Global;
+use std::process::Abort;
+use std::test::Fail;
+
+// What a command left.
+#[derive(Drop)]
+struct Done {
+    ended: Ended,
+    out: MemorySink,
+    err: MemorySink,
+    files: MemoryFiles,
+}
+
+fn run_words(alloc: Global, words: &[&str], files: MemoryFiles) -> Result<Done, Fail> {
+    let mut owned = Vec::new(alloc);
+    for word in words {
+        owned.push(String::from_str(alloc, word)?)?;
+    }
+    let mut out = MemorySink::new(alloc);
+    let mut err = MemorySink::new(alloc);
+    let (ended, files) = run_command(alloc, &owned, files, &mut out, &mut err);
+    Ok(Done {
+        ended,
+        out,
+        err,
+        files,
+    })
+}
+
+// Runs a class as the file of Main.
+fn run_main(alloc: Global, class: &[u8]) -> Result<Done, Fail> {
+    let mut files = MemoryFiles::new(alloc);
+    files.with("app/Main.class", class)?;
+    run_words(alloc, &["-cp", "app", "Main"], files)
+}
+
+// `main` puts 40 + 2 by bipush, iconst_2, iadd and invokestatic.
+const PUTS_A_SUM: [u8; 160] = [
+    202, 254, 186, 190, 0, 0, 0, 52, 0, 12, 1, 0, 4, 77, 97, 105, 110, 7, 0, 1, 1, 0, 16, 106, 97,
+    118, 97, 47, 108, 97, 110, 103, 47, 79, 98, 106, 101, 99, 116, 7, 0, 3, 1, 0, 4, 109, 97, 105,
+    110, 1, 0, 22, 40, 91, 76, 106, 97, 118, 97, 47, 108, 97, 110, 103, 47, 83, 116, 114, 105, 110,
+    103, 59, 41, 86, 1, 0, 4, 67, 111, 100, 101, 1, 0, 3, 112, 117, 116, 1, 0, 4, 40, 73, 41, 86,
+    12, 0, 8, 0, 9, 10, 0, 2, 0, 10, 0, 33, 0, 2, 0, 4, 0, 0, 0, 0, 0, 2, 0, 9, 0, 5, 0, 6, 0, 1,
+    0, 7, 0, 0, 0, 20, 0, 2, 0, 1, 0, 0, 0, 8, 16, 40, 5, 96, 184, 0, 11, 177, 0, 0, 0, 0, 1, 9, 0,
+    8, 0, 9, 0, 0, 0, 0,
+];
+
+// `main` divides 0 by 1.
+const DIVIDES: [u8; 157] = [
+    202, 254, 186, 190, 0, 0, 0, 52, 0, 12, 1, 0, 4, 77, 97, 105, 110, 7, 0, 1, 1, 0, 16, 106, 97,
+    118, 97, 47, 108, 97, 110, 103, 47, 79, 98, 106, 101, 99, 116, 7, 0, 3, 1, 0, 4, 109, 97, 105,
+    110, 1, 0, 22, 40, 91, 76, 106, 97, 118, 97, 47, 108, 97, 110, 103, 47, 83, 116, 114, 105, 110,
+    103, 59, 41, 86, 1, 0, 4, 67, 111, 100, 101, 1, 0, 3, 112, 117, 116, 1, 0, 4, 40, 73, 41, 86,
+    12, 0, 8, 0, 9, 10, 0, 2, 0, 10, 0, 33, 0, 2, 0, 4, 0, 0, 0, 0, 0, 2, 0, 9, 0, 5, 0, 6, 0, 1,
+    0, 7, 0, 0, 0, 17, 0, 2, 0, 1, 0, 0, 0, 5, 3, 4, 108, 87, 177, 0, 0, 0, 0, 1, 9, 0, 8, 0, 9, 0,
+    0, 0, 0,
+];
+
+#[test]
+fn a_sum_is_put_as_a_line(rt: HostRuntime) -> Result<(), Fail> {
+    let done = run_main(rt.alloc(), &PUTS_A_SUM)?;
+    assert_eq!(rt; done.ended, Ended::Exit(0));
+    assert_eq!(rt; status(done.ended), 0);
+    assert_eq!(rt; done.out.bytes(), b"42\n".as_slice());
+    assert_eq!(rt; done.err.bytes(), b"".as_slice());
+    let reads = done.files.reads();
+    assert_eq!(rt; reads.len(), 1);
+    assert_eq!(rt; reads[0].as_str(), "app/Main.class");
+    Ok(())
+}
+
+#[test]
+fn a_division_is_unsupported(rt: HostRuntime) -> Result<(), Fail> {
+    let done = run_main(rt.alloc(), &DIVIDES)?;
+    assert_eq!(rt; done.ended, Ended::Unsupported);
+    assert_eq!(rt; status(done.ended), 9);
+    assert_eq!(rt; done.out.bytes(), b"".as_slice());
+    assert_eq!(rt; done.err.bytes(), b"unsupported Main\n".as_slice());
+    Ok(())
+}
+
+#[test]
+fn an_empty_folder_has_no_main(rt: HostRuntime) -> Result<(), Fail> {
+    let alloc = rt.alloc();
+    let done = run_words(alloc, &["-cp", "app", "Main"], MemoryFiles::new(alloc))?;
+    assert_eq!(rt; done.ended, Ended::NoMain);
+    assert_eq!(rt; done.err.bytes(), b"no main in Main\n".as_slice());
+    let done = run_words(alloc, &["-cp", "app", "p.Main"], MemoryFiles::new(alloc))?;
+    assert_eq!(rt; done.ended, Ended::NoMain);
+    assert_eq!(rt; status(done.ended), 4);
+    assert_eq!(rt; done.out.bytes(), b"".as_slice());
+    assert_eq!(rt; done.err.bytes(), b"no main in p/Main\n".as_slice());
+    assert_eq!(rt; done.files.reads().len(), 0);
+    Ok(())
+}
+
+#[test]
+fn a_class_of_a_package_is_found_below_its_folder(rt: HostRuntime) -> Result<(), Fail> {
+    let alloc = rt.alloc();
+    let mut files = MemoryFiles::new(alloc);
+    files.with("a/b/p/q/Main.class", &PUTS_42_AND_MINUS_1)?;
+    let done = run_words(alloc, &["-cp", "a/b", "p.q.Main"], files)?;
+    assert_eq!(rt; done.ended, Ended::Exit(0));
+    assert_eq!(rt; done.out.bytes(), b"42\n-1\n".as_slice());
+    Ok(())
+}
+
+#[test]
+fn a_file_above_the_limit_is_told(rt: HostRuntime) -> Result<(), Fail> {
+    let large = vec![in rt.alloc(); 0u8; MAX_FILE + 1]?;
+    let done = run_main(rt.alloc(), &large)?;
+    let limit = MAX_FILE as u64;
+    assert_eq!(rt; done.ended, Ended::Limit(Quantity::FileSize, limit));
+    assert_eq!(rt; status(done.ended), 13);
+    assert_eq!(rt; done.err.bytes(), b"limit FileSize 67108864\n".as_slice());
+    let done = run_main(rt.alloc(), &large[1..])?;
+    assert_eq!(rt; done.ended, Ended::Unsupported);
+    Ok(())
+}
+
+// Adds what stands before an edit's place and its new bytes, and answers the place behind what goes.
+fn push_edit(
+    rt: &impl Abort,
+    class: &[u8],
+    place: usize,
+    edit: &str,
+    bytes: &mut Vec<u8>,
+) -> Result<usize, Fail> {
+    let mut numbers = edit.split_whitespace();
+    let at = numbers.next().ok_or("no place")?.parse::<usize>()?;
+    let cut = numbers.next().ok_or("no number")?.parse::<usize>()?;
+    assert!(rt; place <= at && at <= class.len() && cut <= class.len() - at);
+    bytes.extend_from_slice(&class[place..at])?;
+    for number in numbers {
+        bytes.push(number.parse::<u8>()?)?;
+    }
+    Ok(at + cut)
+}
+
+// The class that a line's edits make.
+fn edited(rt: &impl Abort, alloc: Global, edits: &str) -> Result<Vec<u8>, Fail> {
+    let class = &PUTS_42_AND_MINUS_1;
+    let mut bytes = Vec::new(alloc);
+    let mut place = 0;
+    for edit in edits.split(';').skip(1) {
+        place = push_edit(rt, class, place, edit, &mut bytes)?;
+    }
+    assert!(rt; place <= class.len());
+    bytes.extend_from_slice(&class[place..])?;
+    Ok(bytes)
+}
+
+// Words outside the grammar, with one space between each two.
+static FAULTY_WORDS: &str = "
+-cp
+-cp app
+Main
+app Main
+-cp app Main Main
+-cp app Main --steps=9
+-cp app --steps=9 Main
+--steps=9 -cp app Main
+-cp app -cp app Main
+-classpath app Main
+-Xshare:on -cp app Main
+-cp * Main
+-cp a:b Main
+-cp app: Main
+-cp app.jar Main
+-cp .zip Main
+-cp app Main.
+-cp app .Main
+-cp app p..Main
+-cp app p/Main
+-cp app Ma-in
+-cp app Ma\u{e9}n";
+
+fn refuses_words(rt: &impl Abort, alloc: Global, line: &str) -> Result<(), Fail> {
+    let mut words = Vec::new(alloc);
+    for word in line.split_whitespace() {
+        words.push(word)?;
+    }
+    let mut files = MemoryFiles::new(alloc);
+    files.with("app/Main.class", &PUTS_42_AND_MINUS_1)?;
+    let done = run_words(alloc, &words, files)?;
+    assert_eq!(rt; done.ended, Ended::Usage, "{line}");
+    assert_eq!(rt; status(done.ended), 2);
+    assert_eq!(rt; done.out.bytes(), b"".as_slice());
+    assert_eq!(rt; done.err.bytes(), b"usage\n".as_slice());
+    assert_eq!(rt; done.files.reads().len(), 0);
+    Ok(())
+}
+
+fn refuses_class(rt: &impl Abort, alloc: Global, line: &str) -> Result<(), Fail> {
+    let class = edited(rt, alloc, line)?;
+    let done = run_main(alloc, &class)?;
+    assert_eq!(rt; done.ended, Ended::Unsupported, "{line}");
+    assert_eq!(rt; done.out.bytes(), b"".as_slice());
+    assert_eq!(rt; done.err.bytes(), b"unsupported Main\n".as_slice());
+    Ok(())
+}
+
+#[test]
+fn each_narrowing_and_each_faulty_word_refuses(rt: HostRuntime) -> Result<(), Fail> {
+    for line in FAULTY_WORDS.lines() {
+        refuses_words(&rt, rt.alloc(), line)?;
+    }
+    let none = MemoryFiles::new(rt.alloc());
+    assert_eq!(rt;
+        run_words(rt.alloc(), &["-cp", "", "Main"], none)?.ended,
+        Ended::Usage
+    );
+    for line in REFUSED.lines() {
+        refuses_class(&rt, rt.alloc(), line)?;
+    }
+    Ok(())
+}
+
+// The text with an end of a line for each slash.
+fn lines_of(alloc: Global, text: &str) -> Result<Vec<u8>, Fail> {
+    let mut lines = Vec::new(alloc);
+    for b in text.as_bytes() {
+        lines.push(if *b == b'/' { b'\n' } else { *b })?;
+    }
+    Ok(lines)
+}
+
+fn accepts_class(rt: &impl Abort, alloc: Global, line: &str) -> Result<(), Fail> {
+    let (edits, wanted) = line.split_once('=').ok_or("no output")?;
+    let class = edited(rt, alloc, edits)?;
+    let done = run_main(alloc, &class)?;
+    assert_eq!(rt; done.ended, Ended::Exit(0), "{line}");
+    let lines = lines_of(alloc, wanted.trim())?;
+    assert_eq!(rt; done.out.bytes(), lines.as_slice(), "{line}");
+    Ok(())
+}
+
+#[test]
+fn what_no_narrowing_names_is_accepted(rt: HostRuntime) -> Result<(), Fail> {
+    for line in ACCEPTED.lines() {
+        accepts_class(&rt, rt.alloc(), line)?;
+    }
+    Ok(())
+}
+
+// Whether the bytes are lines of numbers.
+fn are_lines(bytes: &[u8]) -> bool {
+    bytes
+        .iter()
+        .all(|b| matches!(b, b'-' | b'\n' | b'0'..=b'9'))
+}
+
+fn answers_at_each_byte(rt: &impl Abort, alloc: Global, value: u8) -> Result<(), Fail> {
+    for at in 0..PUTS_42_AND_MINUS_1.len() {
+        let mut class = Vec::from_slice(alloc, &PUTS_42_AND_MINUS_1)?;
+        class[at] = value;
+        let done = run_main(alloc, &class)?;
+        if done.ended == Ended::Exit(0) {
+            assert!(rt; are_lines(done.out.bytes()));
+            assert_eq!(rt; done.err.bytes(), b"".as_slice());
+        } else {
+            assert_eq!(rt; done.ended, Ended::Unsupported);
+            assert_eq!(rt; done.out.bytes(), b"".as_slice());
+        }
+    }
+    Ok(())
+}
+
+#[test]
+fn each_byte_may_be_changed(rt: HostRuntime) -> Result<(), Fail> {
+    for value in [0, 1, 2, 7, 10, 12, 96, 127, 128, 177, 184, 255] {
+        answers_at_each_byte(&rt, rt.alloc(), value)?;
+    }
+    Ok(())
+}
