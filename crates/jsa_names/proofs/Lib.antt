@@ -1,0 +1,6 @@
+pub mod Forms
+pub mod Runs
+pub mod NameTexts
+pub mod Spelled
+pub mod FieldSpelled
+pub mod MethodSpelled

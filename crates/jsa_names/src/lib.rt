@@ -1,0 +1,22 @@
+//! Names and descriptors of class files: whether bytes are modified UTF-8, the name of a class, a field or a method,
+//! what a descriptor says, and where the file of a class stands in a folder.
+#![tactic(auto)]
+
+mod descriptors;
+mod methods;
+mod names;
+mod paths;
+mod texts;
+mod types;
+
+pub use descriptors::{field_type, field_types_are_spelled};
+pub use methods::{MethodType, method_type, method_types_are_spelled};
+pub use names::{is_class_name, is_member_name, is_method_name};
+pub use paths::path_of;
+pub use texts::{is_mutf8, texts_are_spelled, utf16};
+pub use types::FieldType;
+
+#[cfg(test)]
+mod test_table;
+#[cfg(test)]
+mod tests;
