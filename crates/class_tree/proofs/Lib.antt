@@ -1,0 +1,4 @@
+pub mod Forms
+pub mod Loop
+pub mod PoolCodecs
+pub mod Spelled

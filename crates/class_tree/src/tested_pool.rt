@@ -1,0 +1,238 @@
+//! Entries of a constant pool, with what their texts are.
+ghost use Rattle.std.specs.Prelude.{◌≡◌, IfOk, slice_get};
+ghost use Rattle.std.specs.Option.{option_copied};
+ghost use Rattle.class_tree.specs.Links as links;
+ghost use Rattle.class_tree.specs.TextForms as forms;
+
+use crate::constant_pool::PoolEntry;
+use jsa_names::{field_type, is_class_name, is_member_name, is_method_name, method_type};
+use sqlite_items::at;
+use std::alloc::{AllocError, Global};
+use std::marker::Model;
+
+// What the text of an entry is. All are false where it has none.
+#[derive(Clone, Copy)]
+struct TextForms {
+    is_text: bool,
+    is_class_or_array: bool,
+    is_member_name: bool,
+    is_field_type: bool,
+    is_method_name: bool,
+    is_method_type: bool,
+    is_init: bool,
+    returns_void: bool,
+}
+
+fn begins_array(text: &[u8]) -> bool
+    ensures { result ≡ links.begins_array text.now }
+{
+    let [b, ..] = text else {
+        return false;
+    };
+    *b == b'['
+}
+
+fn is_field_type(text: &[u8]) -> bool
+    ensures { result ≡ links.is_field_type text.now }
+{
+    field_type(text).is_some()
+}
+
+fn is_class_or_array(text: &[u8]) -> bool
+    ensures { result ≡ links.is_class_or_array text.now }
+{
+    is_class_name(text) || (begins_array(text) && is_field_type(text))
+}
+
+fn is_method_type(text: &[u8]) -> bool
+    ensures { result ≡ links.is_method_type text.now }
+{
+    method_type(text).is_some()
+}
+
+fn is_init(text: &[u8]) -> bool
+    ensures { result ≡ links.is_init text.now }
+{
+    text == b"<init>".as_slice()
+}
+
+fn returns_void(text: &[u8]) -> bool
+    ensures { result ≡ links.returns_void text.now }
+{
+    match method_type(text) {
+        Some(method) => method.result().is_none(),
+        None => false,
+    }
+}
+
+fn text_of(entry: &PoolEntry) -> Option<&[u8]>
+    ensures { option_copied result ≡ links.text_in (Some entry.now) }
+{
+    match entry {
+        PoolEntry::Utf8(text) => Some(text.as_slice()),
+        _ => None,
+    }
+}
+
+fn no_forms() -> TextForms
+    ensures { result ≡ forms.forms_in None }
+{
+    TextForms {
+        is_text: false,
+        is_class_or_array: false,
+        is_member_name: false,
+        is_field_type: false,
+        is_method_name: false,
+        is_method_type: false,
+        is_init: false,
+        returns_void: false,
+    }
+}
+
+fn forms_of(entry: &PoolEntry) -> TextForms
+    ensures { result ≡ forms.forms_of entry.now }
+{
+    let Some(text) = text_of(entry) else {
+        return no_forms();
+    };
+    TextForms {
+        is_text: true,
+        is_class_or_array: is_class_or_array(text),
+        is_member_name: is_member_name(text),
+        is_field_type: is_field_type(text),
+        is_method_name: is_method_name(text),
+        is_method_type: is_method_type(text),
+        is_init: is_init(text),
+        returns_void: returns_void(text),
+    }
+}
+
+#[tactic(auto, unfolding(crate::specs::TextForms::all_forms))]
+fn all_forms(alloc: Global, entries: &[PoolEntry]) -> Result<Vec<TextForms>, AllocError>
+    ensures { IfOk result (λ all. all.items ≡ forms.all_forms entries.now) }
+{
+    entries.iter().map(|entry| forms_of(entry)).collect(alloc)
+}
+
+/// The entries of a constant pool, from index 0 on, with each of their texts tested: however many entries name a
+/// text, it is looked at once.
+///
+/// Contracts see it as the list of the entries.
+#[derive(Drop)]
+pub(crate) struct TestedPool<'a> {
+    entries: &'a [PoolEntry],
+    forms: Vec<TextForms>,
+}
+
+impl<'a> Model for TestedPool<'a> {
+    ghost use Rattle.std.specs.Prelude.{◌≡◌, List};
+    ghost use Rattle.class_tree.specs.declared.constant_pool.PoolEntry.{PoolEntry};
+    ghost use Rattle.class_tree.specs.TextForms.{all_forms};
+
+    ghost Value = { List PoolEntry };
+
+    ghost view = { λ p. p.entries.now };
+
+    ghost invariant = { λ p. p.forms.items ≡ all_forms p.entries.now };
+}
+
+impl<'a> TestedPool<'a> {
+    pub(crate) fn new(alloc: Global, entries: &'a [PoolEntry]) -> Result<TestedPool<'a>, AllocError>
+        ensures { IfOk result (λ pool. pool ≡ entries.now) }
+    {
+        let forms = all_forms(alloc, entries)?;
+        Ok(TestedPool { entries, forms })
+    }
+
+    pub(crate) fn entries(&self) -> &'a [PoolEntry]
+        ensures { result.now ≡ self.now }
+    {
+        self.entries
+    }
+
+    fn entry(&self, index: u16) -> Option<&PoolEntry>
+        ensures { option_copied result ≡ slice_get self.now index }
+    {
+        at(self.entries, index as usize)
+    }
+
+    // What the text at an index is.
+    fn forms(&self, index: u16) -> TextForms
+        ensures { result ≡ forms.forms_in (slice_get self.now index) }
+    {
+        match at(&self.forms, index as usize) {
+            Some(forms) => *forms,
+            None => no_forms(),
+        }
+    }
+
+    pub(crate) fn is_utf8(&self, index: u16) -> bool
+        ensures { result ≡ links.is_utf8 self.now index }
+    {
+        self.forms(index).is_text
+    }
+
+    pub(crate) fn has_class_name(&self, index: u16) -> bool
+        ensures { result ≡ links.has_text self.now index links.is_class_or_array }
+    {
+        self.forms(index).is_class_or_array
+    }
+
+    pub(crate) fn is_class(&self, index: u16) -> bool
+        ensures { result ≡ links.is_class self.now index }
+    {
+        matches!(self.entry(index), Some(PoolEntry::Class(_)))
+    }
+
+    pub(crate) fn is_name_and_type(&self, index: u16) -> bool
+        ensures { result ≡ links.is_name_and_type self.now index }
+    {
+        matches!(self.entry(index), Some(PoolEntry::NameAndType(_, _)))
+    }
+
+    pub(crate) fn is_member_reference(&self, index: u16) -> bool
+        ensures { result ≡ links.is_member_reference self.now index }
+    {
+        matches!(
+            self.entry(index),
+            Some(
+                PoolEntry::Fieldref(_, _)
+                    | PoolEntry::Methodref(_, _)
+                    | PoolEntry::InterfaceMethodref(_, _)
+            )
+        )
+    }
+
+    pub(crate) fn is_field(&self, index: u16) -> bool
+        ensures { result ≡ links.is_field self.now index }
+    {
+        match self.entry(index) {
+            Some(PoolEntry::NameAndType(name, desc)) => {
+                self.forms(*name).is_member_name && self.forms(*desc).is_field_type
+            }
+            _ => false,
+        }
+    }
+
+    pub(crate) fn is_method(&self, index: u16) -> bool
+        ensures { result ≡ links.is_method self.now index }
+    {
+        match self.entry(index) {
+            Some(PoolEntry::NameAndType(name, desc)) => {
+                self.forms(*name).is_method_name && self.forms(*desc).is_method_type
+            }
+            _ => false,
+        }
+    }
+
+    pub(crate) fn init_is_void(&self, index: u16) -> bool
+        ensures { result ≡ links.init_is_void self.now index }
+    {
+        match self.entry(index) {
+            Some(PoolEntry::NameAndType(name, desc)) => {
+                !self.forms(*name).is_init || self.forms(*desc).returns_void
+            }
+            _ => false,
+        }
+    }
+}
