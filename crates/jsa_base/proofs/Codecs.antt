@@ -7,6 +7,7 @@ use Rattle.std.proofs.lemmas.List.Concat.{flat_map-cons}
 use Rattle.jsa_base.specs.Reading.{◌>>=◌, IsBytes, Read, u1_at, u2_at, u4_at, bytes_at, pair_at, made, times, counted_at, text_at, long_text_at, all_read}
 use Rattle.jsa_base.specs.Spelling.{u2, u4, text, long_text, counted, FitsText, FitsLongText, FitsCounted}
 use Rattle.jsa_base.specs.Codec.{Took, Codec}
+use Rattle.jsa_base.specs.LowFirst.{low_u4, low_u8, low_u4_at, low_u8_at, low_text, low_text_at, low_counted, low_counted_at, FitsLowCounted}
 
 -- the value of a step that did not fail
 pub bind_some : {A B : Type 0} (r : Option A) (f : A → Option B) (y : B) → (r >>= f) ≡ Some y → (x : A) × (r ≡ Some x) × (f x ≡ Some y)
@@ -256,3 +257,89 @@ on_tag {A} {P} tag k x y z here past h =
       | true ↦ λ is. here (eqb-true tag k is)
       | false ↦ λ is. past
     ] refl h
+
+-- ---- the low byte first
+
+pub low_u4_codec : Codec low_u4_at low_u4 (λ n. n < 2 ^ 32)
+low_u4_codec = record { takes = takes; again = again; bytes = λ x fits. (omega arith, (omega arith, (omega arith, (omega arith, tt)))) } where
+  takes : (bytes : List ℕ) (x : ℕ) (rest : List ℕ) → IsBytes bytes → low_u4_at bytes ≡ Some (x, rest) → Took low_u4 (λ n. n < 2 ^ 32) bytes x rest
+  takes [] x rest fits e = absurd cc
+  takes (a ∷ []) x rest fits e = absurd cc
+  takes (a ∷ b ∷ []) x rest fits e = absurd cc
+  takes (a ∷ b ∷ c ∷ []) x rest fits e = absurd cc
+  takes (a ∷ b ∷ c ∷ d ∷ bytes) x rest fits e =
+      let n = a + 256 * b + 65536 * c + 16777216 * d in
+      let p = some_is (n, bytes) (x, rest) e in
+      let fa : a < 256 = fits.0 in
+      let fb : b < 256 = fits.1.0 in
+      let fc : c < 256 = fits.1.1.0 in
+      let fd : d < 256 = fits.1.1.1.0 in
+      let i : (a + 256 * b + 65536 * c + 16777216 * d) % 256 ≡ a = omega arith in
+      let j : (a + 256 * b + 65536 * c + 16777216 * d) / 256 % 256 ≡ b = omega arith in
+      let k : (a + 256 * b + 65536 * c + 16777216 * d) / 65536 % 256 ≡ c = omega arith in
+      let l : (a + 256 * b + 65536 * c + 16777216 * d) / 16777216 % 256 ≡ d = omega arith in
+      let top : a + 256 * b + 65536 * c + 16777216 * d < 2 ^ 32 = omega arith in
+      subst (λ (y : ℕ × List ℕ). Took low_u4 (λ n. n < 2 ^ 32) (a ∷ b ∷ c ∷ d ∷ bytes) y.0 y.1) p (record { parts = rw (i, j, k, l) refl; rest_bytes = fits.1.1.1.1; fits = top })
+
+  again : (x : ℕ) (rest : List ℕ) → x < 2 ^ 32 → low_u4_at (low_u4 x ++ rest) ≡ Some (x, rest)
+  again x rest fits = let e : x % 256 + 256 * (x / 256 % 256) + 65536 * (x / 65536 % 256) + 16777216 * (x / 16777216 % 256) ≡ x = omega arith in ap (λ (n : ℕ). Some (n, rest)) e
+
+pub low_u8_codec : Codec low_u8_at low_u8 (λ n. n < 2 ^ 64)
+unfolding low_u8_at
+low_u8_codec = record { takes = takes; again = again; bytes = bytes } where
+  halves : Codec (pair_at low_u4_at low_u4_at) (λ (p : ℕ × ℕ). low_u4 p.0 ++ low_u4 p.1) (λ (p : ℕ × ℕ). (p.0 < 2 ^ 32) × (p.1 < 2 ^ 32))
+  halves = pair_codec low_u4_at low_u4_at low_u4 low_u4 (λ n. n < 2 ^ 32) (λ n. n < 2 ^ 32) low_u4_codec low_u4_codec
+
+  takes : (bytes : List ℕ) (x : ℕ) (rest : List ℕ) → IsBytes bytes → made (λ p. p.0 + 0x1_0000_0000 * p.1) (pair_at low_u4_at low_u4_at) bytes ≡ Some (x, rest) → Took low_u8 (λ n. n < 2 ^ 64) bytes x rest
+  takes bytes x rest fits e =
+      let a = bind_some (pair_at low_u4_at low_u4_at bytes) (λ p. Some (p.0.0 + 0x1_0000_0000 * p.0.1, p.1)) (x, rest) e in
+      let l = a.0.0.0 in
+      let h = a.0.0.1 in
+      let t = halves.takes bytes (l, h) a.0.1 fits a.1 in
+      let fl : l < 2 ^ 32 = t.fits.0 in
+      let fh : h < 2 ^ 32 = t.fits.1 in
+      let p = some_is (l + 0x1_0000_0000 * h, a.0.1) (x, rest) a.2 in
+      let i : (l + 0x1_0000_0000 * h) / 0x1_0000_0000 ≡ h = omega arith in
+      let j : (l + 0x1_0000_0000 * h) % 0x1_0000_0000 ≡ l = omega arith in
+      let top : l + 0x1_0000_0000 * h < 2 ^ 64 = omega arith in
+      let parts : bytes ≡ low_u8 (l + 0x1_0000_0000 * h) ++ a.0.1 = rw (i, j) t.parts in
+      subst (λ (y : ℕ × List ℕ). Took low_u8 (λ n. n < 2 ^ 64) bytes y.0 y.1) p (record { parts = parts; rest_bytes = t.rest_bytes; fits = top })
+
+  again : (x : ℕ) (rest : List ℕ) → x < 2 ^ 64 → made (λ p. p.0 + 0x1_0000_0000 * p.1) (pair_at low_u4_at low_u4_at) (low_u8 x ++ rest) ≡ Some (x, rest)
+  again x rest fits =
+      let i : x / 0x1_0000_0000 < 2 ^ 32 = omega arith in
+      let j : x % 0x1_0000_0000 < 2 ^ 32 = omega arith in
+      let e : x % 0x1_0000_0000 + 0x1_0000_0000 * (x / 0x1_0000_0000) ≡ x = omega arith in
+      ap (λ (r : Read (ℕ × ℕ)). r >>= λ p. Some (p.0.0 + 0x1_0000_0000 * p.0.1, p.1)) (halves.again (x % 0x1_0000_0000, x / 0x1_0000_0000) rest (j, i)) ∙ ap (λ (n : ℕ). Some (n, rest)) e
+
+  bytes : (x : ℕ) → x < 2 ^ 64 → IsBytes (low_u8 x)
+  bytes x fits =
+      let i : x / 0x1_0000_0000 < 2 ^ 32 = omega arith in
+      let j : x % 0x1_0000_0000 < 2 ^ 32 = omega arith in
+      append-IsBytes (low_u4 (x % 0x1_0000_0000)) (low_u4 (x / 0x1_0000_0000)) (low_u4_codec.bytes _ j) (low_u4_codec.bytes _ i)
+
+pub low_text_codec : Codec low_text_at low_text FitsLongText
+unfolding low_text_at
+low_text_codec = sized_codec low_u4_at low_u4 (2 ^ 32) low_u4_codec
+
+pub low_counted_codec : {A : Type 0} (item : List ℕ → Option (A × List ℕ)) (spell : A → List ℕ) (Fit : A → Type 0) → Codec item spell Fit → Codec (low_counted_at item) (low_counted spell) (FitsLowCounted Fit)
+low_counted_codec {A} item spell Fit c = record { takes = takes; again = again; bytes = λ xs fits. append-IsBytes (low_u4 (length xs)) (flat_map spell xs) (low_u4_codec.bytes (length xs) fits.0) (times_bytes item spell Fit c xs fits.1) } where
+  takes : (bytes : List ℕ) (xs : List A) (rest : List ℕ) → IsBytes bytes → low_counted_at item bytes ≡ Some (xs, rest) → Took (low_counted spell) (FitsLowCounted Fit) bytes xs rest
+  takes bytes xs rest fits h =
+      let a = bind_some (low_u4_at bytes) (λ n. times item n.0 n.1) (xs, rest) h in
+      let n = a.0.0 in
+      let first = low_u4_codec.takes bytes n a.0.1 fits a.1 in
+      let t = times_take item spell Fit c n a.0.1 xs rest first.rest_bytes a.2 in
+      let small : n < 2 ^ 32 = first.fits in
+      record {
+        parts = first.parts ∙ ap (λ (r : List ℕ). low_u4 n ++ r) t.parts ∙ sym (append_assoc (low_u4 n) (flat_map spell xs) rest) ∙ ap (λ (k : ℕ). (low_u4 k ++ flat_map spell xs) ++ rest) (sym t.len);
+        rest_bytes = t.rest_bytes;
+        fits = (omega (arith, small, t.len), t.fits);
+      }
+
+  again : (xs : List A) (rest : List ℕ) → FitsLowCounted Fit xs → low_counted_at item (low_counted spell xs ++ rest) ≡ Some (xs, rest)
+  again xs rest fits =
+      let lt : length xs < 2 ^ 32 = fits.0 in
+      ap (low_counted_at item) (append_assoc (low_u4 (length xs)) (flat_map spell xs) rest)
+      ∙ ap (λ (r : Option (ℕ × List ℕ)). r >>= λ n. times item n.0 n.1) (low_u4_codec.again (length xs) (flat_map spell xs ++ rest) lt)
+      ∙ times_again item spell Fit c xs rest fits.1

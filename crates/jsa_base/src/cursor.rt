@@ -1,11 +1,13 @@
 //! A cursor over bytes.
 ghost use Rattle.std.specs.Prelude.{◌≡◌, length};
 ghost use Rattle.jsa_base.specs.Reading.{Reads, u1_at, u2_at, u4_at, bytes_at, IsBytes};
+ghost use Rattle.jsa_base.specs.LowFirst.{low_u4_at, low_u8_at};
 
-use byteorder::{BigEndian, ByteOrder};
+use byteorder::{BigEndian, ByteOrder, LittleEndian};
 use std::marker::Model;
 
-/// A place in bytes, from which numbers are read with the high byte first, as class files have them (JVMS 4).
+/// A place in bytes, from which numbers are read with the high byte first, as class files have them (JVMS 4), and by
+/// the calls that say so with the low byte first, as archives have them.
 ///
 /// Contracts see it as the list of the bytes that are left. Each read gives what stands at the front and goes behind
 /// it. `None` comes exactly where too few bytes are left, and the cursor is then unchanged.
@@ -49,6 +51,13 @@ impl<'a> Cursor<'a> {
         self.rest.len()
     }
 
+    /// The bytes that are left.
+    pub fn rest(&self) -> &'a [u8]
+        ensures { result.now ≡ self.now }
+    {
+        self.rest
+    }
+
     /// The next byte.
     pub fn u1(&mut self) -> Option<u8>
         ensures { Reads (λ n. n) result self.old self.new (u1_at self.old) }
@@ -80,6 +89,31 @@ impl<'a> Cursor<'a> {
             return None;
         };
         let number = BigEndian::read_u32(self.rest);
+        self.rest = rest;
+        Some(number)
+    }
+
+    /// The number in the next four bytes, the low byte first.
+    pub fn low_u4(&mut self) -> Option<u32>
+        ensures { Reads (λ n. n) result self.old self.new (low_u4_at self.old) }
+    {
+        let [_a, _b, _c, _d, rest @ ..] = self.rest else {
+            return None;
+        };
+        let number = LittleEndian::read_u32(self.rest);
+        self.rest = rest;
+        Some(number)
+    }
+
+    /// The number in the next eight bytes, the low byte first.
+    #[tactic(auto, unfolding(crate::specs::LowFirst::low_u8_at))]
+    pub fn low_u8(&mut self) -> Option<u64>
+        ensures { Reads (λ n. n) result self.old self.new (low_u8_at self.old) }
+    {
+        let [_a, _b, _c, _d, _e, _f, _g, _h, rest @ ..] = self.rest else {
+            return None;
+        };
+        let number = LittleEndian::read_u64(self.rest);
         self.rest = rest;
         Some(number)
     }

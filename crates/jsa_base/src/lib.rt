@@ -3,7 +3,9 @@
 #![tactic(auto)]
 
 mod cursor;
+mod low_first;
 mod quantity;
 
 pub use cursor::Cursor;
+pub use low_first::{low_u4, low_u8};
 pub use quantity::Quantity;
