@@ -2,6 +2,9 @@
 use Rattle.std.proofs.Common.{◌≡◌, ◌≤◌, ◌<◌, ◌+◌, ◌^◌, ℕ, List, [], ◌++◌, length, Option, arith, take, length-append, length-take}
 use Rattle.std.proofs.KnownBytes.{Consumes-nil, Consumes-trans}
 use Rattle.std.specs.Io.KnownBytes.{Consumes}
+use Rattle.sha2.specs.declared.Sha256.{Sha256}
+use Rattle.sha2.specs.Hashers.{Holds256}
+use Rattle.jsa_files.specs.declared.TheConstants.{MAX_FILE}
 use Rattle.jsa_files.specs.Disk.{counted_to}
 
 -- Reads took these many bytes, and the count with those before is so much.
@@ -18,3 +21,11 @@ pub seen_more : (first mid now : Option (List ℕ)) (buffer : List ℕ) (before 
 seen_more first mid now buffer before size count new seen more fits grown =
     let all : length (seen.seen ++ take count buffer) ≡ length seen.seen + count = omega (arith, length-append seen.seen (take count buffer), length-take count buffer) in
     record { seen = seen.seen ++ take count buffer; read = Consumes-trans first mid now seen.seen (take count buffer) seen.read more; count = omega (arith, seen.count, all, grown) }
+
+-- Reads took these bytes, and the hasher holds them.
+pub record HasHashed (first now : Option (List ℕ)) (hasher : Sha256) (size : ℕ) : Type 0 where
+  pub seen : List ℕ
+  pub read : Consumes first now seen
+  pub held : Holds256 hasher seen
+  pub count : size ≡ length seen
+  pub small : size ≤ MAX_FILE

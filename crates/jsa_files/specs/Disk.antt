@@ -3,7 +3,9 @@ use Rattle.std.specs.Prelude.{◌≡◌, ◌+◌, ◌-◌, ◌^◌, ◌<◌, ◌
 use Rattle.std.specs.Global.{Vec}
 use Rattle.jsa_files.specs.declared.TheConstants.{MAX_FILE}
 use Rattle.jsa_files.specs.declared.fault.FilesFault.{FilesFault}
+use Rattle.jsa_files.specs.declared.stamp.Stamp.{Stamp}
 use Rattle.jsa_files.specs.declared.fault.FilesFault.TheVariants.{Failed, TooLarge, TooMany, Memory}
+use Rattle.jsa_files.specs.Store.{IsStampOf}
 
 -- A fault that one call of the system gives.
 abbrev pub IsOfCall : FilesFault → Type 0
@@ -32,6 +34,23 @@ GivesWhole (Some all) (Err Failed) = ⊤
 GivesWhole (Some all) (Err (TooLarge size)) = size ≡ counted_to (length all)
 GivesWhole (Some all) (Err (TooMany count)) = ⊤
 GivesWhole (Some all) (Err Memory) = ⊤
+
+-- All that a reader has left is stamped where it is small enough, and else only counted.
+abbrev pub StampsWhole : Result Stamp FilesFault → Type 0
+StampsWhole (Ok stamp) = stamp.size ≤ MAX_FILE
+StampsWhole (Err Failed) = ⊤
+StampsWhole (Err (TooLarge size)) = MAX_FILE < size
+StampsWhole (Err (TooMany count)) = ⊥
+StampsWhole (Err Memory) = ⊤
+
+-- the same, of a reader that tells what it has left
+abbrev pub GivesStamp : Option (List ℕ) → Result Stamp FilesFault → Type 0
+GivesStamp None result = ⊤
+GivesStamp (Some all) (Ok stamp) = IsStampOf all stamp
+GivesStamp (Some all) (Err Failed) = ⊤
+GivesStamp (Some all) (Err (TooLarge size)) = size ≡ counted_to (length all)
+GivesStamp (Some all) (Err (TooMany count)) = ⊤
+GivesStamp (Some all) (Err Memory) = ⊤
 
 -- the size of what was read before and of what a reader that tells has left
 abbrev pub Counts : Option (List ℕ) → ℕ → ℕ → Type 0

@@ -3,12 +3,19 @@ ghost use Rattle.std.specs.Prelude.{◌≡◌, ◌≤◌, None, IfOk, IfErr, ⊤
 ghost use Rattle.std.specs.Io.{ReadsAtMost};
 ghost use Rattle.std.specs.Io.KnownBytes.{ReadConsumes};
 ghost use Rattle.jsa_files.specs.Causes.{CountsFailure};
-ghost use Rattle.jsa_files.specs.Store.{KeepsSize};
-ghost use Rattle.jsa_files.specs.Disk.{IsOfCall, KeepsWhole, GivesWhole, Counts};
+ghost use Rattle.jsa_files.specs.Store.{KeepsSize, StampsSmall};
+ghost use Rattle.jsa_files.specs.Listing.{ListsFew, Ascend, AllEndInClass};
+ghost use Rattle.jsa_files.specs.Disk.{IsOfCall, KeepsWhole, GivesWhole, StampsWhole, GivesStamp, Counts};
 
 use crate::MAX_FILE;
+use crate::disk_listing::files_below;
 use crate::fault::FilesFault;
 use crate::files::Files;
+use crate::listing::class_names;
+use crate::names::Names;
+use crate::stamp::Stamp;
+use crate::std_sink::write_whole;
+use sha2::{Digest, Sha256};
 use std::alloc::Global;
 use std::fs;
 use std::io::{ErrorKind, Read};
@@ -20,15 +27,19 @@ const BUFFER: usize = 65_536;
 /// hold.
 ///
 /// A path is as the system takes it: one that doesn't begin with `/` is below the current folder.
-/// `read` reads to the end. It keeps at most `MAX_FILE` bytes, and only counts what is beyond them, so
-/// that `TooLarge` has the whole size.
+/// `read` and `digest` read to the end. They keep or hash at most `MAX_FILE` bytes, and only count what
+/// is beyond them, so that `TooLarge` has the whole size. `list` walks the folders, through links too,
+/// and takes the files that it finds. `write` makes the folders above the path that aren't there, and
+/// takes over a file that is.
 ///
 /// - A path that isn't there, is below something that is no folder, or is longer than a path may be, is `None`, and no
 ///   fault.
-/// - An `Err` of the kind `OutOfMemory` is `Memory`, and no fault.
-/// - Each other `Err` of the runtime, at the opening or at a read, also one of the kind `Interrupted`,
-///   is `Failed` and counts once, in the count of read faults. A path that is a folder is one of
-///   these. A count stands still at 2^64 - 1.
+/// - An `Err` of the kind `OutOfMemory` is `Memory`, and no fault. Of a write this holds until the file
+///   is open, since its old bytes are gone then.
+/// - Each other `Err` of the runtime, also one of the kind `Interrupted`, is `Failed` and counts once, in
+///   the count of read faults, or of write faults where it is a write's. A path that is a folder is one
+///   of these; so are, in a listing, a name that isn't UTF-8 and a folder that lies more than 64 deep,
+///   and in a write, one that takes nothing. A count stands still at 2^64 - 1.
 #[derive(Drop)]
 pub struct DiskFiles<R> {
     rt: R,
@@ -63,6 +74,21 @@ impl<R: std::rt::Files + Alloc> Files for DiskFiles<R> {
         let answer = read_path(&self.rt, alloc, path);
         counted(answer, &mut self.read_faults)
     }
+
+    fn digest(&mut self, _alloc: Global, path: &str) -> Result<Option<Stamp>, FilesFault> {
+        let answer = digest_path(&self.rt, path);
+        counted(answer, &mut self.read_faults)
+    }
+
+    fn list(&mut self, alloc: Global, folder: &str) -> Result<Names, FilesFault> {
+        let answer = list_folder(&self.rt, alloc, folder);
+        counted(answer, &mut self.read_faults)
+    }
+
+    fn write(&mut self, _alloc: Global, path: &str, bytes: &[u8]) -> Result<(), FilesFault> {
+        let answer = write_path(&self.rt, path, bytes);
+        counted(answer, &mut self.write_faults)
+    }
 }
 
 /// Counts the answer of a call where it is `Failed`.
@@ -89,10 +115,73 @@ fn read_path<R: std::rt::Files>(
             Ok(bytes) => Ok(Some(bytes)),
             Err(fault) => Err(fault),
         },
-        Err(e) => match e.kind() {
-            ErrorKind::NotFound | ErrorKind::NotADirectory | ErrorKind::InvalidFilename => Ok(None),
-            kind => Err(fault_of(kind)),
+        Err(e) => missing(e.kind()),
+    }
+}
+
+/// Opens the path, reads it to its end and hashes it.
+fn digest_path<R: std::rt::Files>(rt: &R, path: &str) -> Result<Option<Stamp>, FilesFault>
+    ensures { StampsSmall result }
+{
+    match fs::open(rt, path) {
+        Ok(mut file) => match digest_whole(&mut file) {
+            Ok(stamp) => Ok(Some(stamp)),
+            Err(fault) => Err(fault),
         },
+        Err(e) => missing(e.kind()),
+    }
+}
+
+/// The names of the class files below the folder.
+fn list_folder<R: std::rt::Files + Alloc>(
+    rt: &R,
+    alloc: Global,
+    folder: &str,
+) -> Result<Names, FilesFault>
+    ensures number { ListsFew result }
+    ensures order { IfOk result Ascend }
+    ensures classes { IfOk result AllEndInClass }
+{
+    let files = files_below(rt, alloc, folder)?;
+    class_names(alloc, &files, folder)
+}
+
+/// A path that isn't there is no fault.
+pub(crate) fn missing<T>(kind: ErrorKind) -> Result<Option<T>, FilesFault>
+    ensures none { IfOk result (λ found. found ≡ None) }
+    ensures fault { IfErr result IsOfCall }
+{
+    match kind {
+        ErrorKind::NotFound | ErrorKind::NotADirectory | ErrorKind::InvalidFilename => Ok(None),
+        kind => Err(fault_of(kind)),
+    }
+}
+
+/// Makes the folders above the path and then the file, and writes the bytes. Once the file is opened
+/// its old bytes are gone, so that from there on want of memory is a fault too.
+fn write_path<R: std::rt::Files>(rt: &R, path: &str, bytes: &[u8]) -> Result<(), FilesFault>
+    ensures { IfErr result IsOfCall }
+{
+    make_folders(rt, path)?;
+    match fs::create(rt, path) {
+        Ok(mut file) => match write_whole(&mut file, bytes) {
+            Ok(()) => Ok(()),
+            Err(_) => Err(FilesFault::Failed),
+        },
+        Err(e) => Err(fault_of(e.kind())),
+    }
+}
+
+/// Makes the folders above the path that aren't there.
+fn make_folders<R: std::rt::Files>(rt: &R, path: &str) -> Result<(), FilesFault>
+    ensures { IfErr result IsOfCall }
+{
+    let Some((folder, _)) = path.rsplit_once('/') else {
+        return Ok(());
+    };
+    match fs::create_dir_all(rt, folder) {
+        Ok(()) => Ok(()),
+        Err(e) => Err(fault_of(e.kind())),
     }
 }
 
@@ -114,6 +203,32 @@ pub(crate) fn read_whole<F: Read>(file: &mut F, alloc: Global) -> Result<Vec<u8>
             return Err(FilesFault::TooLarge(count_rest(file, before)?));
         }
         bytes.extend_from_slice(&buffer[..count])?;
+    }
+}
+
+/// Reads to the end and hashes. More than `MAX_FILE` bytes are only counted, and `TooLarge` has the
+/// size of all that the reader had left.
+pub(crate) fn digest_whole<F: Read>(file: &mut F) -> Result<Stamp, FilesFault>
+    ensures size { StampsWhole result }
+    ensures stamp { GivesStamp (F.remaining file.old) result }
+{
+    let mut hasher = Sha256::new();
+    let mut size = 0usize;
+    let mut buffer = [0u8; BUFFER];
+    loop {
+        let taken = read_some(file, &mut buffer)?;
+        if taken == 0 {
+            return Ok(Stamp {
+                size: size as u64,
+                sha256: hasher.finalize(),
+            });
+        }
+        if size + taken > MAX_FILE {
+            let before = (size + taken) as u64;
+            return Err(FilesFault::TooLarge(count_rest(file, before)?));
+        }
+        hasher.update(&buffer[..taken]);
+        size += taken;
     }
 }
 
@@ -148,7 +263,7 @@ fn read_some<F: Read>(file: &mut F, buffer: &mut [u8]) -> Result<usize, FilesFau
 }
 
 /// Want of memory is no fault of the outside.
-fn fault_of(kind: ErrorKind) -> FilesFault
+pub(crate) fn fault_of(kind: ErrorKind) -> FilesFault
     ensures { IsOfCall result }
 {
     match kind {

@@ -57,7 +57,7 @@ impl<W: Write> Sink for StdSink<W> {
 }
 
 /// Writes all of the bytes and flushes.
-fn write_whole<W: Write>(writer: &mut W, bytes: &[u8]) -> Result<(), SinkFault>
+pub(crate) fn write_whole<W: Write>(writer: &mut W, bytes: &[u8]) -> Result<(), SinkFault>
     ensures { Writes (W.contents writer.old) (W.contents writer.new) bytes.now result }
 {
     let mut rest = bytes;

@@ -1,5 +1,7 @@
 // What no clause says: that calls succeed, what std's files and writers do, and which error of
 // theirs is which answer.
+ghost use Rattle.std.specs.Prelude.{◌≡◌, IfOk};
+
 use crate::disk::read_whole;
 use crate::{
     DiskFiles, Files, FilesFault, MAX_FILE, MemoryFiles, MemorySink, Sink, SinkFault, StdSink,
@@ -104,6 +106,84 @@ fn a_memory_sink_takes_all(rt: HostRuntime) -> Result<(), Fail> {
     put(alloc, &mut sink, b"")?;
     put(alloc, &mut sink, b"c")?;
     assert_eq!(rt; sink.bytes(), b"abc".as_slice());
+    Ok(())
+}
+
+// A store without files, after a first call that was to fail.
+fn after_a_planned_failure(alloc: Global) -> Result<MemoryFiles, FilesFault>
+    ensures { IfOk result (λ files. ⟦<MemoryFiles as Files>⟧.read_faults files ≡ 1) }
+{
+    let mut files = MemoryFiles::new(alloc);
+    files.fail(1, 0)?;
+    let _failed = files.read(alloc, "app/A.class");
+    Ok(files)
+}
+
+#[test]
+fn planned_reads_fail_and_no_others_do(rt: HostRuntime) -> Result<(), Fail> {
+    let alloc = rt.alloc();
+    let failed = Some(FilesFault::Failed);
+    let mut files = after_a_planned_failure(alloc)?;
+    assert!(rt; files.reads().is_empty());
+    // the calls that follow are the second to the seventh
+    files.with("app/A.class", b"one")?;
+    for call in [6, 3, u64::MAX, 1, 0, 6] {
+        files.fail(call, 2)?;
+    }
+    assert_eq!(rt;
+        read(alloc, &mut files, "app/A.class")?.as_deref(),
+        Some(b"one".as_slice())
+    );
+    assert_eq!(rt; read(alloc, &mut files, "app/A.class").err(), failed);
+    assert!(rt; read(alloc, &mut files, "app/B.class")?.is_none());
+    assert!(rt; read(alloc, &mut files, "app/B.class")?.is_none());
+    assert_eq!(rt; read(alloc, &mut files, "app/B.class").err(), failed);
+    assert_eq!(rt;
+        read(alloc, &mut files, "app/A.class")?.as_deref(),
+        Some(b"one".as_slice())
+    );
+    assert_eq!(rt; files.reads().len(), 2);
+    Ok(())
+}
+
+#[test]
+fn a_planned_put_keeps_a_front(rt: HostRuntime) -> Result<(), Fail> {
+    let alloc = rt.alloc();
+    for (kept, taken) in [
+        (0, "abc"),
+        (1, "abwc"),
+        (4, "abwxyzc"),
+        (9, "abwxyzc"),
+        (u64::MAX, "abwxyzc"),
+    ] {
+        let mut sink = MemorySink::new(alloc);
+        sink.fail(2, kept)?;
+        put(alloc, &mut sink, b"ab")?;
+        assert_eq!(rt;
+            put(alloc, &mut sink, b"wxyz"),
+            Err(SinkFault::Failed),
+            "{kept}"
+        );
+        put(alloc, &mut sink, b"c")?;
+        assert_eq!(rt; sink.bytes(), taken.as_bytes(), "{kept}");
+    }
+    Ok(())
+}
+
+#[test]
+fn the_later_plan_of_a_put_counts(rt: HostRuntime) -> Result<(), Fail> {
+    let alloc = rt.alloc();
+    let failed = Err(SinkFault::Failed);
+    let mut sink = MemorySink::new(alloc);
+    sink.fail(3, 0)?;
+    sink.fail(1, 2)?;
+    sink.fail(3, 1)?;
+    assert_eq!(rt; put(alloc, &mut sink, b"abc"), failed);
+    sink.fail(1, 0)?;
+    put(alloc, &mut sink, b"d")?;
+    assert_eq!(rt; put(alloc, &mut sink, b"ef"), failed);
+    put(alloc, &mut sink, b"g")?;
+    assert_eq!(rt; sink.bytes(), b"abdeg".as_slice());
     Ok(())
 }
 
