@@ -1,0 +1,9 @@
+pub mod KeyOrder
+pub mod Joined
+pub mod Parts
+pub mod Forms
+pub mod Found
+pub mod Back
+pub mod Placed
+pub mod Ends
+pub mod Written

@@ -1,0 +1,6 @@
+pub mod Opcodes
+pub mod Instruction
+pub mod Spelling
+pub mod Places
+pub mod Reading
+pub mod Unsupported

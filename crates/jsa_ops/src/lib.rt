@@ -1,0 +1,26 @@
+//! The instruction set of the Java virtual machine (JVMS 6.5 and 7): one table of opcodes, what stands at a place of a
+//! code, and how an instruction is written.
+#![tactic(auto)]
+
+mod fault;
+mod form;
+mod instr;
+mod keys;
+mod laws;
+mod reading;
+mod support;
+mod table;
+mod writing;
+
+pub use fault::{Memory, OpFault};
+pub use form::{Form, form_of};
+pub use instr::Instr;
+pub use laws::{answers_are_exact, behind_is_unread, cut_goes_on};
+pub use reading::decode;
+pub use support::is_unsupported;
+pub use writing::write;
+
+#[cfg(test)]
+mod test_table;
+#[cfg(test)]
+mod tests;
