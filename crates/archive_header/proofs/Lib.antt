@@ -1,0 +1,10 @@
+pub mod Headers
+pub mod Texts
+pub mod Loop
+pub mod ManifestCodecs
+pub mod Manifests
+pub mod Places
+pub mod NameSearch
+pub mod FirstChanged
+pub mod Pushes
+pub mod ShortTexts

@@ -1,0 +1,5 @@
+pub mod Header
+pub mod Folders
+pub mod ManifestBytes
+pub mod Changes
+pub mod Outcomes
