@@ -3,7 +3,6 @@ use Rattle.std.specs.Prelude.{ℕ, List, length, Bool, true, Option, Some, None,
 use Rattle.std.specs.List.{list_all, list_any}
 use Rattle.std.specs.Str.{bytes_eq}
 use Rattle.jsa_base.specs.Reading.{◌>>=◌, when, all_read}
-use Rattle.classfile_reader.specs.declared.parts.TheConstants.{MAX_CODE}
 use Rattle.classfile_reader.specs.declared.parts.PoolEntry.{PoolEntry}
 use Rattle.classfile_reader.specs.declared.parts.PoolEntry.TheVariants.{Unusable, Utf8, Integer, Class, Methodref, NameAndType}
 use Rattle.classfile_reader.specs.declared.parts.Attribute.{Attribute}
@@ -113,7 +112,7 @@ unfoldable pub is_good_code : List PoolEntry → CodeParts → Bool
 is_good_code pool c =
     length c.handlers == 0
     && nat_le 1 (length c.bytes)
-    && nat_le (length c.bytes) MAX_CODE
+    && nat_le (length c.bytes) 65_535
     && nat_le 1 c.locals
     && are_named pool c.attributes
     && not (list_any (is_frame_table pool) c.attributes)

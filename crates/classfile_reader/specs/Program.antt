@@ -1,13 +1,14 @@
 -- The instructions of main (JVMS 6.5), and the program of a class's parts.
-use Rattle.std.specs.Prelude.{ℕ, pos, zero, suc, ◌+◌, ◌-◌, ◌-ℤ◌, slice_get, List, [], ◌∷◌, length, Bool, false, Option, Some, None, ◌==◌, ◌&&◌, nat_le, nat_lt, if◌then◌else◌, find, codes}
-use Rattle.std.specs.Int.{w8, cast_signed}
-use Rattle.jsa_base.specs.Reading.{◌>>=◌, Read, when, u1_at, u2_at}
+use Rattle.std.specs.Prelude.{ℕ, pos, zero, suc, ◌+◌, ◌-◌, ◌-ℤ◌, slice_get, slice_set, List, [], ◌∷◌, length, replicate, Bool, true, false, Option, Some, None, ◌==◌, ◌&&◌, nat_le, nat_lt, if◌then◌else◌, find, codes}
+use Rattle.std.specs.Int.{w8, w16, w32, cast_signed, is_in_range}
+use Rattle.std.specs.Option.{unwrap_or}
+use Rattle.jsa_base.specs.Reading.{◌>>=◌, Read, when, made, pair_at, u1_at, u2_at}
 use Rattle.classfile_reader.specs.declared.parts.PoolEntry.{PoolEntry}
 use Rattle.classfile_reader.specs.declared.parts.PoolEntry.TheVariants.{Unusable, Utf8, Integer, Class, Methodref, NameAndType}
 use Rattle.classfile_reader.specs.declared.parts.ClassParts.{ClassParts}
 use Rattle.classfile_reader.specs.declared.parts.CodeParts.{CodeParts}
 use Rattle.classfile_reader.specs.declared.program.Instruction.{Instruction}
-use Rattle.classfile_reader.specs.declared.program.Instruction.TheVariants.{Push, Add, Put, Return}
+use Rattle.classfile_reader.specs.declared.program.Instruction.TheVariants.{Nop, Push, Load, Store, Pop, Dup, Add, Subtract, Multiply, Negate, ShiftLeft, ShiftRight, LogicalShiftRight, And, Or, Xor, Increment, ToByte, ToChar, ToShort, Put, Return}
 use Rattle.classfile_reader.specs.declared.program.Program.{Program}
 use Rattle.classfile_reader.specs.Texts.{same_class, is_member}
 use Rattle.classfile_reader.specs.Form.{declares_put, has_form, is_main, is_init, code_of, init_is_good}
@@ -22,11 +23,38 @@ is_own_put p (Some (Class name)) = false
 is_own_put p (Some (NameAndType name desc)) = false
 is_own_put p None = false
 
--- bipush: the byte behind the opcode, signed
-abbrev pub bipush_at : List ℕ → Read Instruction
-bipush_at bytes = do
-  byte ← u1_at bytes
-  Some (Push (cast_signed w8 byte.0), byte.1)
+-- the byte behind the opcode, signed
+abbrev pub byte_at : List ℕ → Read Instruction
+byte_at bytes = made (λ n. Push (cast_signed w8 n)) u1_at bytes
+
+-- the two bytes behind the opcode, signed
+abbrev pub short_at : List ℕ → Read Instruction
+short_at bytes = made (λ n. Push (cast_signed w16 n)) u2_at bytes
+
+-- the number of an Integer of the constant pool (4.4.4)
+abbrev pub constant_of : Option PoolEntry → Option Instruction
+constant_of (Some (Integer bits)) = Some (Push (cast_signed w32 bits))
+constant_of (Some Unusable) = None
+constant_of (Some (Utf8 bytes)) = None
+constant_of (Some (Class name)) = None
+constant_of (Some (Methodref class member)) = None
+constant_of (Some (NameAndType name desc)) = None
+constant_of None = None
+
+-- the Integer at the index behind the opcode, which is read in one byte or in two
+abbrev pub constant_at : ClassParts → (List ℕ → Read ℕ) → List ℕ → Read Instruction
+constant_at p read bytes = do
+  index ← read bytes
+  push ← constant_of (slice_get p.pool index.0)
+  Some (push, index.1)
+
+-- the local behind the opcode
+abbrev pub local_at : (ℕ → Instruction) → List ℕ → Read Instruction
+local_at of bytes = made of u1_at bytes
+
+-- the local and the signed amount behind the opcode
+abbrev pub increment_at : List ℕ → Read Instruction
+increment_at bytes = made (λ x. Increment x.0 (cast_signed w8 x.1)) (pair_at u1_at u1_at) bytes
 
 -- invokestatic: the index behind the opcode, of a Methodref
 abbrev pub invokestatic_at : ClassParts → List ℕ → Read Instruction
@@ -35,15 +63,54 @@ invokestatic_at p bytes = do
   known ← when (is_own_put p (slice_get p.pool index.0))
   Some (Put, index.1)
 
--- the instruction of an opcode, with what stands behind it: iconst_m1 to iconst_5, bipush, iadd, invokestatic, return
-abbrev pub instruction_by : ClassParts → ℕ → List ℕ → Read Instruction
-instruction_by p opcode bytes =
-    if nat_le 0x02 opcode && nat_le opcode 0x08 then Some (Push (pos opcode -ℤ pos 3), bytes)
-    else if opcode == 0x10 then bipush_at bytes
-    else if opcode == 0x60 then Some (Add, bytes)
-    else if opcode == 0xb8 then invokestatic_at p bytes
-    else if opcode == 0xb1 then Some (Return, bytes)
+-- ---- the instructions, one line each (JVMS 6.5)
+
+-- an instruction that is its opcode alone
+unfoldable pub plain_by : ℕ → Option Instruction
+plain_by opcode =
+    if opcode == 0x00 then Some Nop  -- nop
+    else if is_in_range 0x02 0x08 opcode then Some (Push (pos opcode -ℤ pos 0x03))  -- iconst_m1, iconst_0 to iconst_5
+    else if is_in_range 0x1a 0x1d opcode then Some (Load (opcode - 0x1a))  -- iload_0 to iload_3
+    else if is_in_range 0x3b 0x3e opcode then Some (Store (opcode - 0x3b))  -- istore_0 to istore_3
+    else if opcode == 0x57 then Some Pop  -- pop
+    else if opcode == 0x59 then Some Dup  -- dup
+    else if opcode == 0x60 then Some Add  -- iadd
+    else if opcode == 0x64 then Some Subtract  -- isub
+    else if opcode == 0x68 then Some Multiply  -- imul
+    else if opcode == 0x74 then Some Negate  -- ineg
+    else if opcode == 0x78 then Some ShiftLeft  -- ishl
+    else if opcode == 0x7a then Some ShiftRight  -- ishr
+    else if opcode == 0x7c then Some LogicalShiftRight  -- iushr
+    else if opcode == 0x7e then Some And  -- iand
+    else if opcode == 0x80 then Some Or  -- ior
+    else if opcode == 0x82 then Some Xor  -- ixor
+    else if opcode == 0x91 then Some ToByte  -- i2b
+    else if opcode == 0x92 then Some ToChar  -- i2c
+    else if opcode == 0x93 then Some ToShort  -- i2s
+    else if opcode == 0xb1 then Some Return  -- return
     else None
+
+-- an instruction whose operands stand behind the opcode
+unfoldable pub with_operands_by : ClassParts → ℕ → List ℕ → Read Instruction
+with_operands_by p opcode bytes =
+    if opcode == 0x10 then byte_at bytes  -- bipush
+    else if opcode == 0x11 then short_at bytes  -- sipush
+    else if opcode == 0x12 then constant_at p u1_at bytes  -- ldc
+    else if opcode == 0x13 then constant_at p u2_at bytes  -- ldc_w
+    else if opcode == 0x15 then local_at Load bytes  -- iload
+    else if opcode == 0x36 then local_at Store bytes  -- istore
+    else if opcode == 0x84 then increment_at bytes  -- iinc
+    else if opcode == 0xb8 then invokestatic_at p bytes  -- invokestatic
+    else None
+
+-- An opcode that is no instruction alone has operands behind it.
+abbrev pub plain_or : Option Instruction → List ℕ → Read Instruction → Read Instruction
+plain_or (Some instruction) bytes other = Some (instruction, bytes)
+plain_or None bytes other = other
+
+-- the instruction of an opcode, with the bytes after it
+abbrev pub instruction_by : ClassParts → ℕ → List ℕ → Read Instruction
+instruction_by p opcode bytes = plain_or (plain_by opcode) bytes (with_operands_by p opcode bytes)
 
 unfoldable pub instruction_at : ClassParts → List ℕ → Read Instruction
 instruction_at p bytes = do
@@ -59,20 +126,80 @@ instructions_in p (suc n) (b ∷ bytes) = do
   others ← instructions_in p n first.1
   Some (first.0 ∷ others)
 
--- From this depth of the stack on each instruction finds its operands and its room, and the last one alone returns.
-abbrev pub fits : ℕ → ℕ → List Instruction → Bool
-fits room depth [] = false
-fits room depth (Push number ∷ others) = nat_lt depth room && fits room (depth + 1) others
-fits room depth (Add ∷ others) = nat_le 2 depth && fits room (depth - 1) others
-fits room depth (Put ∷ others) = nat_le 1 depth && fits room (depth - 1) others
-fits room depth (Return ∷ others) = length others == 0
+-- ---- what the instructions need (4.9.2, 4.10)
+
+-- how many numbers an instruction takes from the operand stack, and how many it puts there after that (6.5)
+unfoldable pub moves : Instruction → (ℕ × ℕ)
+moves Nop = (0, 0)
+moves (Push number) = (0, 1)
+moves (Load local) = (0, 1)
+moves (Store local) = (1, 0)
+moves Pop = (1, 0)
+moves Dup = (1, 2)
+moves Add = (2, 1)
+moves Subtract = (2, 1)
+moves Multiply = (2, 1)
+moves Negate = (1, 1)
+moves ShiftLeft = (2, 1)
+moves ShiftRight = (2, 1)
+moves LogicalShiftRight = (2, 1)
+moves And = (2, 1)
+moves Or = (2, 1)
+moves Xor = (2, 1)
+moves (Increment local amount) = (0, 0)
+moves ToByte = (1, 1)
+moves ToChar = (1, 1)
+moves ToShort = (1, 1)
+moves Put = (1, 0)
+moves Return = (0, 0)
+
+-- whether an int was stored in a local, from the list that says so of each
+abbrev pub is_stored : List Bool → ℕ → Bool
+is_stored stored local = unwrap_or (slice_get stored local) false
+
+-- A load and an iinc name a local in which an earlier instruction stored an int, and a store any local.
+unfoldable pub finds_local : List Bool → Instruction → Bool
+finds_local stored (Load local) = is_stored stored local
+finds_local stored (Increment local amount) = is_stored stored local
+finds_local stored (Store local) = nat_lt local (length stored)
+finds_local stored other = true
+
+-- the locals in which an int was stored, after an instruction
+unfoldable pub stored_after : List Bool → Instruction → List Bool
+stored_after stored (Store local) = slice_set stored local true
+stored_after stored other = stored
+
+-- the depth of the stack after an instruction
+abbrev pub depth_after : ℕ → Instruction → ℕ
+depth_after depth i = depth - (moves i).0 + (moves i).1
+
+-- The stack has the operands and, once they are gone, room for what is put there.
+abbrev pub finds_room : ℕ → ℕ → Instruction → Bool
+finds_room room depth i = nat_le (moves i).0 depth && nat_le (depth_after depth i) room
+
+abbrev pub is_return : Instruction → Bool
+is_return Return = true
+is_return other = false
+
+-- From this depth of the stack and these locals on each instruction finds its operands, its room and its local, and the
+-- last one alone returns.
+unfoldable pub fits : ℕ → ℕ → List Bool → List Instruction → Bool
+fits room depth stored [] = false
+fits room depth stored (i ∷ others) =
+    if is_return i then length others == 0
+    else finds_room room depth i && finds_local stored i && fits room (depth_after depth i) (stored_after stored i) others
+
+-- A program fits its max_stack and its max_locals; at first the stack is empty and no int is stored.
+abbrev pub is_tested : Program → Bool
+is_tested program = fits program.max_stack 0 (replicate program.max_locals false) program.instructions
 
 -- the program in the code of main
 unfoldable pub program_in : ClassParts → CodeParts → Option Program
 program_in p code = do
   instructions ← instructions_in p (length code.bytes) code.bytes
-  tested ← when (fits code.stack 0 instructions)
-  Some (record { max_stack = code.stack; instructions = instructions })
+  program ← Some (record { max_stack = code.stack; max_locals = code.locals; instructions = instructions })
+  tested ← when (is_tested program)
+  Some program
 
 -- the program of a class's parts, where they have the first form
 unfoldable pub program_of : ClassParts → Option Program

@@ -3,7 +3,9 @@
 
 mod code_reading;
 mod fault;
+mod fitting;
 mod form;
+mod instructions;
 mod names;
 mod parts;
 mod program;

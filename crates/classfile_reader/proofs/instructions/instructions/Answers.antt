@@ -1,7 +1,7 @@
 use Rattle.std.proofs.Common.{◌≡◌, ◌<◌, length, length-append, ap, arith, ◌++◌, ◌∷◌, []}
 use Rattle.classfile_reader.specs.Program.{instructions_in}
 use Rattle.classfile_reader.proofs.Loop.{instructions_go_on}
-use Rattle.classfile_reader.proofs.program_reading.instructions.Goals as goal
+use Rattle.classfile_reader.proofs.instructions.instructions.Goals as goal
 
 pub loop-preserved : goal.loop-preserved
 loop-preserved c =

@@ -1,7 +1,7 @@
 use Rattle.std.proofs.Common.{◌≡◌, ◌-◌, ◌≤◌, length}
 use Rattle.classfile_reader.specs.Program.{instructions_in}
 use Rattle.classfile_reader.proofs.Loop.{whole_with_front}
-use Rattle.classfile_reader.proofs.program_reading.instructions.Given as goal
+use Rattle.classfile_reader.proofs.instructions.instructions.Given as goal
 
 abbrev pub invariant-loop : goal.invariant-loop
 invariant-loop l = record {
