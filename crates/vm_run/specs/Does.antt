@@ -7,12 +7,12 @@ use Rattle.vm_run.specs.declared.rows.Did.{Did}
 use Rattle.vm_run.specs.declared.rows.Did.TheVariants as did
 use Rattle.vm_run.specs.Machine.{Row, Next, Puts, Returns, NoRow, State, line_of}
 
--- The row is what was done to the stack.
-abbrev pub Does : Row → Did → (old new : List ℤ) → Type 0
-Does r did.Next old new = r ≡ Next new
-Does r (did.Puts n) old new = r ≡ Puts new (line_of n)
-Does r did.Returns old new = r ≡ Returns
-Does r did.NoRow old new = (r ≡ NoRow) × (new ≡ old)
+-- The row is what was done to the local variables and to the stack.
+abbrev pub Does : Row → Did → (locals locals_new : List (Option ℤ)) (stack stack_new : List ℤ) → Type 0
+Does r did.Next locals locals_new stack stack_new = r ≡ Next locals_new stack_new
+Does r (did.Puts n) locals locals_new stack stack_new = (r ≡ Puts stack_new (line_of n)) × (locals_new ≡ locals)
+Does r did.Returns locals locals_new stack stack_new = r ≡ Returns
+Does r did.NoRow locals locals_new stack stack_new = (r ≡ NoRow) × (locals_new ≡ locals) × (stack_new ≡ stack)
 
 -- the text of the number that a turn puts, if it puts one
 abbrev pub text_of : Option ℤ → List ℕ

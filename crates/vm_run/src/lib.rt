@@ -2,11 +2,17 @@
 //! turns. JVMS n is section n of the Java Virtual Machine Specification, SE 8.
 #![tactic(auto)]
 
+mod arithmetic;
+mod bits;
 mod laws;
+mod locals;
 mod machine;
+mod plain;
 mod rows;
 mod running;
 mod stack;
+#[cfg(test)]
+mod test_rows;
 #[cfg(test)]
 mod tests;
 mod turns;

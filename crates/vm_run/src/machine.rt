@@ -1,7 +1,8 @@
 //! The machine's state.
-ghost use Rattle.std.specs.Prelude.{IfOk};
+ghost use Rattle.std.specs.Prelude.{◌≡◌, IfOk};
 
 use crate::stack::Stack;
+use sqlite_items::Items;
 use std::alloc::{AllocError, Global};
 
 /// The next turn of the entry frame.
@@ -20,8 +21,26 @@ pub enum EntryTurn {
 pub struct CodeFrame {
     /// The index of the next instruction among the program's instructions.
     pub place: usize,
+    /// The local variables: the int in each, if one was stored in it.
+    pub locals: Items<Option<i32>>,
     /// The operand stack.
     pub stack: Stack<i32>,
+}
+
+impl CodeFrame {
+    ghost use Rattle.vm_run.specs.Machine.{frame_of};
+
+    /// The frame at the call of `main`. The only error is that no memory is left.
+    pub fn new(alloc: Global, max_locals: u16) -> Result<CodeFrame, AllocError>
+        ensures { IfOk result (λ f. f ≡ frame_of max_locals) }
+    {
+        let locals = vec![in alloc; None; usize::from(max_locals)]?;
+        Ok(CodeFrame {
+            place: 0,
+            locals: Items::from_vec(locals),
+            stack: Stack::new(alloc),
+        })
+    }
 }
 
 /// A frame of the machine (JVMS 2.6).

@@ -1,11 +1,17 @@
-//! What each instruction does with the operand stack.
-ghost use Rattle.std.specs.Prelude.{ℤ, List, IfOk};
-ghost use Rattle.classfile_reader.specs.declared.program.Instruction.TheVariants as instruction;
+//! What each instruction does with the local variables and the operand stack.
+ghost use Rattle.std.specs.Prelude.{IfOk};
 ghost use Rattle.vm_run.specs.Machine.{row};
 ghost use Rattle.vm_run.specs.Does.{Does};
 
+use crate::arithmetic::{add, multiply, negate, subtract};
+use crate::bits::{
+    and, logical_shift_right, or, shift_left, shift_right, to_byte, to_char, to_short, xor,
+};
+use crate::locals::{increment, load, store};
+use crate::plain::{dup, nop, pop, push, put, return_from_main};
 use crate::stack::Stack;
 use classfile_reader::Instruction;
+use sqlite_items::Items;
 use std::alloc::AllocError;
 
 /// What an instruction did.
@@ -17,54 +23,40 @@ pub(crate) enum Did {
     Puts(i32),
     /// It returned from `main`.
     Returns,
-    /// It lacks an operand, and the stack is as before.
+    /// It lacks an operand or its local, and the locals and the stack are as before.
     NoRow,
 }
 
-/// Does the row of an instruction on the operand stack. Each group of instructions has a function of its own.
-pub(crate) fn do_row(instruction: Instruction, stack: &mut Stack<i32>) -> Result<Did, AllocError>
-    ensures { IfOk result (λ did. Does (row instruction stack.old) did stack.old stack.new) }
+/// Does the row of an instruction on the local variables and the operand stack.
+pub(crate) fn do_row(
+    instruction: Instruction,
+    locals: &mut Items<Option<i32>>,
+    stack: &mut Stack<i32>,
+) -> Result<Did, AllocError>
+    ensures { IfOk result (λ did. Does (row instruction locals.old stack.old) did locals.old locals.new stack.old stack.new) }
 {
     match instruction {
+        Instruction::Nop => Ok(nop()),
         Instruction::Push(n) => push(n, stack),
+        Instruction::Load(local) => load(local, locals.as_slice(), stack),
+        Instruction::Store(local) => Ok(store(local, locals, stack)),
+        Instruction::Pop => Ok(pop(stack)),
+        Instruction::Dup => dup(stack),
         Instruction::Add => add(stack),
+        Instruction::Subtract => subtract(stack),
+        Instruction::Multiply => multiply(stack),
+        Instruction::Negate => negate(stack),
+        Instruction::ShiftLeft => shift_left(stack),
+        Instruction::ShiftRight => shift_right(stack),
+        Instruction::LogicalShiftRight => logical_shift_right(stack),
+        Instruction::And => and(stack),
+        Instruction::Or => or(stack),
+        Instruction::Xor => xor(stack),
+        Instruction::Increment(local, amount) => Ok(increment(local, amount, locals)),
+        Instruction::ToByte => to_byte(stack),
+        Instruction::ToChar => to_char(stack),
+        Instruction::ToShort => to_short(stack),
         Instruction::Put => Ok(put(stack)),
         Instruction::Return => Ok(return_from_main()),
     }
-}
-
-#[tactic(auto, unfolding(crate::specs::Machine::row))]
-fn push(n: i32, stack: &mut Stack<i32>) -> Result<Did, AllocError>
-    ensures { IfOk result (λ did. Does (row (instruction.Push n) stack.old) did stack.old stack.new) }
-{
-    stack.push(n)?;
-    Ok(Did::Next)
-}
-
-#[tactic(auto, unfolding(crate::specs::Machine::row), using(crate::proofs::NoRows::no_sum))]
-fn add(stack: &mut Stack<i32>) -> Result<Did, AllocError>
-    ensures { IfOk result (λ did. Does (row instruction.Add stack.old) did stack.old stack.new) }
-{
-    let Some((b, a)) = stack.pop_two() else {
-        return Ok(Did::NoRow);
-    };
-    stack.push(a.wrapping_add(b))?;
-    Ok(Did::Next)
-}
-
-#[tactic(auto, unfolding(crate::specs::Machine::row))]
-fn put(stack: &mut Stack<i32>) -> Did
-    ensures { Does (row instruction.Put stack.old) result stack.old stack.new }
-{
-    match stack.pop() {
-        Some(n) => Did::Puts(n),
-        None => Did::NoRow,
-    }
-}
-
-#[tactic(auto, unfolding(crate::specs::Machine::row))]
-fn return_from_main() -> Did
-    ensures { (stack : List ℤ) → Does (row instruction.Return stack) result stack stack }
-{
-    Did::Returns
 }

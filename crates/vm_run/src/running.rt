@@ -1,7 +1,7 @@
 //! Runs of so many turns.
 ghost use Rattle.std.specs.Prelude.{◌≡◌, ◌≢◌, true, Some, IfOk, OnOk, OnErr, IsErrOf};
 ghost use Rattle.jsa_files.specs.Sinks.{GrowsBy, GrowsByFront};
-ghost use Rattle.classfile_reader.specs.Program.{fits};
+ghost use Rattle.classfile_reader.specs.Program.{is_tested};
 ghost use Rattle.vm_run.specs.declared.running.RunFault.TheVariants.{Memory};
 ghost use Rattle.vm_run.specs.Faults.{CountsWrite};
 ghost use Rattle.vm_run.specs.Machine.{IsNew, IsAt, state_after, start};
@@ -50,8 +50,8 @@ fn put_number<O: Sink>(alloc: Global, number: Option<i32>, out: &mut O) -> Resul
     }
 }
 
-/// Makes at most `limit` turns of a new machine, and puts to `out` what they put. The answer is the end, or `None` where the
-/// run hasn't ended after so many turns. After an error nothing is said of the machine.
+/// Makes at most `limit` turns of a new machine, and puts to `out` what they put. The answer is the end, or `None` where
+/// the run hasn't ended after so many turns. After an error nothing is said of the machine.
 pub fn run<O: Sink>(
     alloc: Global,
     program: &Program,
@@ -60,14 +60,14 @@ pub fn run<O: Sink>(
     limit: u64,
 ) -> Result<Option<End>, RunFault>
     requires new { IsNew machine.old }
-    requires tested { fits program.now.max_stack 0 program.now.instructions ≡ true }
+    requires tested { is_tested program.now ≡ true }
     // The machine and the answer are those of the state after so many turns.
-    ensures ran { IfOk result (IsAt (state_after program.now.instructions limit start) machine.new) }
+    ensures ran { IfOk result (IsAt (state_after program.now limit start) machine.new) }
     ensures out { OnOk result (GrowsBy (O.taken out.old) (O.taken out.new)
-        (state_after program.now.instructions limit start).out) }
+        (state_after program.now limit start).out) }
     // After a fault a front of that was put.
     ensures front { OnErr result (GrowsByFront (O.taken out.old) (O.taken out.new)
-        (state_after program.now.instructions limit start).out) }
+        (state_after program.now limit start).out) }
     ensures cause { CountsWrite (O.faults out.old) (O.faults out.new) result }
     ensures failed { IsErrOf result RunFault.Write → O.can_fail out.old }
     ensures stays { O.can_fail out.new → O.can_fail out.old }
@@ -75,7 +75,7 @@ pub fn run<O: Sink>(
     ensures sound { IfOk result (λ end. end ≢ Some End.Stuck) }
 {
     for _ in 0..limit {
-        let turned = turn(alloc, &program.instructions, machine)?;
+        let turned = turn(alloc, program, machine)?;
         machine.turns += 1;
         put_number(alloc, turned.put, out)?;
         if turned.end.is_some() {

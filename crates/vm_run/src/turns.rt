@@ -5,9 +5,7 @@ ghost use Rattle.vm_run.specs.Does.{out_after, state_of, state_with};
 
 use crate::machine::{ClassState, CodeFrame, End, EntryTurn, Frame, Machine};
 use crate::rows::{Did, do_row};
-use crate::stack::Stack;
-use classfile_reader::Instruction;
-use sqlite_items::Items;
+use classfile_reader::Program;
 use std::alloc::{AllocError, Global};
 
 /// What a turn did beside the change of the machine.
@@ -36,30 +34,35 @@ const EXIT: Turned = Turned {
 /// One turn, but for its count and what it puts.
 pub(crate) fn turn(
     alloc: Global,
-    instructions: &Items<Instruction>,
+    program: &Program,
     machine: &mut Machine,
 ) -> Result<Turned, AllocError>
     // Whatever was put before, the machine and what the turn did are those of the definition's state.
     ensures state { (out : List ℕ) → IfOk result (λ turned.
-        turn_of instructions.now (state_of machine.old out None) machine.old.frames
+        turn_of program.now (state_of machine.old out None) machine.old.frames
         ≡ state_of machine.new (out_after out turned.put) turned.end) }
     ensures turns { OnOk result (machine.new.turns ≡ machine.old.turns) }
 {
     match machine.frames.pop() {
         None => Ok(STUCK),
-        Some(Frame::Entry(turn)) => turn_entry(alloc, turn, machine),
+        Some(Frame::Entry(turn)) => turn_entry(alloc, program.max_locals, turn, machine),
         Some(Frame::Initialise) => {
             machine.class = ClassState::Initialised;
             Ok(NOTHING)
         }
-        Some(Frame::Code(frame)) => turn_code(instructions, frame, machine),
+        Some(Frame::Code(frame)) => turn_code(program, frame, machine),
     }
 }
 
 // A turn of the entry frame, which was taken off.
-fn turn_entry(alloc: Global, turn: EntryTurn, machine: &mut Machine) -> Result<Turned, AllocError>
+fn turn_entry(
+    alloc: Global,
+    max_locals: u16,
+    turn: EntryTurn,
+    machine: &mut Machine,
+) -> Result<Turned, AllocError>
     ensures state { (out : List ℕ) → IfOk result (λ turned.
-        entry_turn (state_with (Frame.Entry turn) machine.old out) turn machine.old.frames
+        entry_turn max_locals (state_with (Frame.Entry turn) machine.old out) turn machine.old.frames
         ≡ state_of machine.new (out_after out turned.put) turned.end) }
     ensures turns { OnOk result (machine.new.turns ≡ machine.old.turns) }
 {
@@ -71,10 +74,7 @@ fn turn_entry(alloc: Global, turn: EntryTurn, machine: &mut Machine) -> Result<T
             Ok(NOTHING)
         }
         EntryTurn::Second => {
-            let frame = CodeFrame {
-                place: 0,
-                stack: Stack::new(alloc),
-            };
+            let frame = CodeFrame::new(alloc, max_locals)?;
             machine.frames.push(Frame::Entry(EntryTurn::Third))?;
             machine.frames.push(Frame::Code(frame))?;
             Ok(NOTHING)
@@ -88,23 +88,23 @@ fn turn_entry(alloc: Global, turn: EntryTurn, machine: &mut Machine) -> Result<T
 
 // A turn of a code frame, which was taken off.
 fn turn_code(
-    instructions: &Items<Instruction>,
+    program: &Program,
     mut frame: CodeFrame,
     machine: &mut Machine,
 ) -> Result<Turned, AllocError>
     ensures state { (out : List ℕ) → IfOk result (λ turned.
         code_turn (state_with (Frame.Code frame) machine.old out) frame machine.old.frames
-        (row_at (slice_get instructions.now frame.place) frame.stack)
+        (row_at (slice_get program.now.instructions frame.place) frame.locals frame.stack)
         ≡ state_of machine.new (out_after out turned.put) turned.end) }
     ensures turns { OnOk result (machine.new.turns ≡ machine.old.turns) }
 {
-    let count = instructions.len();
-    let Some(instruction) = instructions.get(frame.place) else {
+    let count = program.instructions.len();
+    let Some(instruction) = program.instructions.get(frame.place) else {
         machine.frames.push(Frame::Code(frame))?;
         return Ok(STUCK);
     };
     prove!(frame.place < count);
-    let put = match do_row(*instruction, &mut frame.stack)? {
+    let put = match do_row(*instruction, &mut frame.locals, &mut frame.stack)? {
         Did::Next => None,
         Did::Puts(n) => Some(n),
         Did::Returns => return Ok(NOTHING),
