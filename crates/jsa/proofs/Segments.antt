@@ -2,7 +2,11 @@
 use Rattle.std.proofs.Common.{◌≡◌, ℕ, zero, suc, ◌==◌, ◌&&◌, List, [], ◌∷◌, ◌++◌, length, take, Bool, true, false, not, cond, codes, refl, ap, ◌∙◌, sym, append_assoc}
 use Rattle.std.proofs.Math.Dec.{eqb-suc-zero}
 use Rattle.std.specs.List.{list_all, join_with_byte}
-use Rattle.jsa.specs.Words.{is_segment, with_segment}
+use Rattle.jsa.specs.Words.{is_segment}
+
+-- How the code joins them, one by one: the first segment stands alone, and a further one behind a slash.
+abbrev pub with_segment : List ℕ → List ℕ → List ℕ
+with_segment name segment = cond (length name == 0) segment (name ++ codes "/" ++ segment)
 
 both_left : (a b : Bool) → (a && b) ≡ true → a ≡ true
 both_left true b h = refl

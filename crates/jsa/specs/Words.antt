@@ -1,8 +1,10 @@
 -- The words of a command.
-use Rattle.std.specs.Prelude.{ℕ, List, [], ◌∷◌, ◌++◌, length, Bool, Option, Some, None, ◌==◌, ◌&&◌, ◌||◌, not, nat_eq, if◌then◌else◌, codes}
-use Rattle.std.specs.Char.{is_ascii_alphanumeric}
+use Rattle.std.specs.Prelude.{ℕ, ◌^◌, List, [], ◌∷◌, ◌++◌, length, Bool, Option, Some, None, ◌==◌, ◌&&◌, ◌||◌, not, nat_eq, nat_le, nat_lt, if◌then◌else◌, codes}
+use Rattle.std.specs.Char.{is_ascii_alphanumeric, is_digit}
 use Rattle.std.specs.List.{list_all, ends_with, slice_split, join_with_byte}
+use Rattle.std.specs.Option.{option_and_then}
 use Rattle.std.specs.Str.{byte, bytes_eq}
+use Rattle.std.specs.Str.Parse.{digits_value}
 
 -- Whether a text ends in another.
 abbrev pub ends_in : List ℕ → List ℕ → Bool
@@ -32,24 +34,57 @@ segments_of word = slice_split (λ b. b == byte ".") word
 abbrev pub internal_name : List ℕ → Option (List ℕ)
 internal_name word = if list_all is_segment (segments_of word) then Some (join_with_byte (byte "/") (segments_of word)) else None
 
--- How the code joins them, one by one: the first segment stands alone, and a further one behind a slash.
-abbrev pub with_segment : List ℕ → List ℕ → List ℕ
-with_segment name segment = if length name == 0 then segment else name ++ codes "/" ++ segment
+-- 1 to so many digits of the radix, letters in both cases
+abbrev pub is_numeral : ℕ → ℕ → List ℕ → Bool
+is_numeral radix most digits = not (length digits == 0) && nat_le (length digits) most && list_all (λ c. is_digit c radix) digits
 
--- what a run is asked for
+-- the number that they write, where it is below 2^64
+abbrev pub numeral : ℕ → ℕ → List ℕ → Option ℕ
+numeral radix most digits = if is_numeral radix most digits && nat_lt (digits_value radix digits) (2 ^ 64) then Some (digits_value radix digits) else None
+
+-- what stands behind the front of a text, where the text begins with that
+abbrev pub behind : List ℕ → List ℕ → Option (List ℕ)
+behind [] text = Some text
+behind (f ∷ front) [] = None
+behind (f ∷ front) (b ∷ text) = if f == b then behind front text else None
+
+-- A number: 1 to 16 hexadecimal digits behind 0x, or 1 to 20 decimal digits.
+abbrev pub number_by : Option (List ℕ) → List ℕ → Option ℕ
+number_by (Some digits) word = numeral 16 16 digits
+number_by None word = numeral 10 20 word
+
+abbrev pub number_of : List ℕ → Option ℕ
+number_of word = number_by (behind (codes "0x") word) word
+
+-- The option --steps=N: a run makes at most N turns.
+abbrev pub steps_option : List ℕ → Option ℕ
+steps_option word = option_and_then number_of (behind (codes "--steps=") word)
+
+-- how many turns a run makes at most where the words don't say it
+abbrev pub default_steps : ℕ
+default_steps = 1_000_000_000
+
+-- what a run is asked for: the folder of the class files, the internal name of the main class, and the limit of turns
 pub record Request : Type 0 where
   pub folder : List ℕ
   pub name : List ℕ
+  pub steps : ℕ
 
-abbrev pub request_from : List ℕ → Option (List ℕ) → Option Request
-request_from folder None = None
-request_from folder (Some name) = Some (record { folder = folder; name = name })
+abbrev pub request_with : List ℕ → Option ℕ → Option (List ℕ) → Option Request
+request_with folder (Some steps) (Some name) = Some (record { folder = folder; name = name; steps = steps })
+request_with folder (Some steps) None = None
+request_with folder None name = None
+
+-- behind the folder: at most one option, then the main class and nothing else
+unfoldable pub run_of : List ℕ → List (List ℕ) → Option Request
+run_of folder (main ∷ []) = request_with folder (Some default_steps) (internal_name main)
+run_of folder (steps ∷ main ∷ []) = request_with folder (steps_option steps) (internal_name main)
+run_of folder (a ∷ b ∷ c ∷ others) = None
+run_of folder [] = None
 
 -- the grammar of the words
-abbrev pub request_of : List (List ℕ) → Option Request
-request_of (option ∷ folder ∷ main ∷ []) = if bytes_eq option (codes "-cp") && is_folder folder then request_from folder (internal_name main) else None
-request_of (option ∷ folder ∷ main ∷ more ∷ others) = None
-request_of (option ∷ folder ∷ []) = None
+unfoldable pub request_of : List (List ℕ) → Option Request
+request_of (option ∷ folder ∷ others) = if bytes_eq option (codes "-cp") && is_folder folder then run_of folder others else None
 request_of (option ∷ []) = None
 request_of [] = None
 

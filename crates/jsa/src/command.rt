@@ -1,10 +1,11 @@
 //! The top call.
-ghost use Rattle.std.specs.Prelude.{◌≡◌, ◌≢◌, map};
+ghost use Rattle.std.specs.Prelude.{◌≡◌, ◌≢◌, map, Some};
+ghost use Rattle.jsa_files.specs.Causes.{Rose};
 ghost use Rattle.std.specs.String.{string_bytes};
-ghost use Rattle.jsa.specs.Command.{RequestAnswers, ReadsRequest, PathAnswers, ReadsPath, CountsReads, CountsWrites, contents_told};
+ghost use Rattle.jsa.specs.Command.{RequestAnswers, RequestCompletes, CouldAnswer, ReadsRequest, PathAnswers, ReadsPath, CountsReads, CountsWrites, contents_told};
 ghost use Rattle.jsa.specs.Words.{request_of, path_of};
 ghost use Rattle.jsa.specs.Requests.{request_view};
-ghost use Rattle.jsa.specs.Lines.{line_of, name_of, TakesLine, TakesSomeFront, CountsErr};
+ghost use Rattle.jsa.specs.Lines.{line_for, TakesLine, TakesSomeFront, CountsErr};
 
 use crate::ended::Ended;
 use crate::file_run::run_file;
@@ -13,20 +14,18 @@ use crate::words::{RunWords, class_path, read_words};
 use jsa_files::{Files, Sink};
 use std::alloc::Global;
 
-/// How many turns a run makes at most.
-pub const STEPS: u64 = 1_000_000_000;
-
 /// Does what the words after the program's name ask for, and puts the end's line to `err`. The store comes back with
 /// every answer.
 ///
-/// - `Usage`: the words aren't `-cp`, a folder and a main class.
+/// - `Usage`: the words aren't `-cp`, a folder, at most one `--steps=N` and a main class.
 /// - `NoMain`: the folder has no file of the main class.
 /// - `Limit`: the file is larger than `MAX_FILE` bytes.
 /// - `Unsupported`: the file is no class of the first form.
 /// - `Exit(0)`: the class ran, and `out` took what its `main` put.
+/// - `Stopped`: as many turns were made as the limit, and `main` hasn't returned.
 /// - `ReadFault`, `WriteFault`: the store failed at reading the file, `out` at a put.
 /// - `Memory`: memory ran out; this may come in place of any answer.
-#[tactic(auto, using(crate::proofs::Tells::memory_told))]
+#[tactic(auto, using(crate::proofs::Tells::memory_told, crate::proofs::Ends::no_memory_answers, crate::proofs::Ends::no_memory_reads, crate::proofs::Completes::completes))]
 pub fn run_command<F: Files, O: Sink, E: Sink>(
     alloc: Global,
     words: &[String],
@@ -38,6 +37,11 @@ pub fn run_command<F: Files, O: Sink, E: Sink>(
     ensures answer { RequestAnswers (request_of (map string_bytes words.now)) (F.store files)
         (O.taken out.old) (O.taken out.new) result.0 }
 
+    // Where the store tells and no call of it or of out failed, each cause has its answer, unless memory runs out.
+    ensures complete { ¬ (Rose (F.read_faults files) (F.read_faults result.1)) → ¬ (Rose (O.faults out.old) (O.faults out.new))
+        → RequestCompletes (request_of (map string_bytes words.now)) (F.store files)
+        (O.taken out.old) (O.taken out.new) result.0 }
+
     // The main class's file is read once and no other is, and the store holds what it held.
     ensures reads { ReadsRequest (request_of (map string_bytes words.now)) (F.store files) (F.store result.1) result.0 }
     ensures contents { contents_told (F.store result.1) ≡ contents_told (F.store files) }
@@ -46,10 +50,11 @@ pub fn run_command<F: Files, O: Sink, E: Sink>(
     // place of.
     ensures line { result.0 ≢ Ended.Memory → TakesLine (E.taken err.old) (E.taken err.new)
         (E.faults err.old) (E.faults err.new) (E.can_fail err.old)
-        (line_of result.0 (name_of (request_of (map string_bytes words.now)))) }
+        (line_for result.0 (request_of (map string_bytes words.now))) }
     ensures memory { result.0 ≡ Ended.Memory → TakesSomeFront (E.taken err.old) (E.taken err.new)
-        (name_of (request_of (map string_bytes words.now)))
-        (RequestAnswers (request_of (map string_bytes words.now)) (F.store files) (O.taken out.old) (O.taken out.new)) }
+        (request_of (map string_bytes words.now))
+        (CouldAnswer (RequestAnswers (request_of (map string_bytes words.now)) (F.store files) (O.taken out.old) (O.taken out.new))
+        (F.read_faults files) (F.read_faults result.1) (O.faults out.old) (O.faults out.new)) }
     ensures err_faults { CountsErr (E.faults err.old) (E.faults err.new) result.0 }
 
     // A fault is answered only where its count rose, and only where a call could fail.
@@ -67,11 +72,11 @@ pub fn run_command<F: Files, O: Sink, E: Sink>(
     let mut files = files;
     match read_words(alloc, words) {
         Err(_) => {
-            let ended = tell(alloc, Ended::Memory, "", err);
+            let ended = tell(alloc, Ended::Memory, "", 0, err);
             (ended, files)
         }
         Ok(None) => {
-            let ended = tell(alloc, Ended::Usage, "", err);
+            let ended = tell(alloc, Ended::Usage, "", 0, err);
             (ended, files)
         }
         Ok(Some(request)) => {
@@ -82,7 +87,7 @@ pub fn run_command<F: Files, O: Sink, E: Sink>(
 }
 
 // Runs the class that is asked for, and puts the end's line.
-#[tactic(auto, using(crate::proofs::Tells::some_front, crate::proofs::Ends::path_memory, crate::proofs::Ends::reads_memory, crate::proofs::Ends::counts_reads_memory, crate::proofs::Ends::counts_writes_memory))]
+#[tactic(auto, using(crate::proofs::Tells::could_front, crate::proofs::Ends::reads_memory, crate::proofs::Ends::counts_reads_memory, crate::proofs::Ends::counts_writes_memory))]
 fn run_request<F: Files, O: Sink, E: Sink>(
     alloc: Global,
     request: &RunWords,
@@ -90,13 +95,14 @@ fn run_request<F: Files, O: Sink, E: Sink>(
     out: &mut O,
     err: &mut E,
 ) -> Ended
-    ensures answer { PathAnswers (F.store files.old) (path_of (request_view request.now)) (O.taken out.old) (O.taken out.new) result }
+    ensures answer { PathAnswers (F.store files.old) (path_of (request_view request.now)) request.now.steps (O.taken out.old) (O.taken out.new) result }
     ensures reads { ReadsPath (F.store files.old) (F.store files.new) (path_of (request_view request.now)) result }
     ensures contents { contents_told (F.store files.new) ≡ contents_told (F.store files.old) }
     ensures line { result ≢ Ended.Memory → TakesLine (E.taken err.old) (E.taken err.new)
-        (E.faults err.old) (E.faults err.new) (E.can_fail err.old) (line_of result (string_bytes request.now.name)) }
-    ensures memory { result ≡ Ended.Memory → TakesSomeFront (E.taken err.old) (E.taken err.new) (string_bytes request.now.name)
-        (PathAnswers (F.store files.old) (path_of (request_view request.now)) (O.taken out.old) (O.taken out.new)) }
+        (E.faults err.old) (E.faults err.new) (E.can_fail err.old) (line_for result (Some (request_view request.now))) }
+    ensures memory { result ≡ Ended.Memory → TakesSomeFront (E.taken err.old) (E.taken err.new) (Some (request_view request.now))
+        (CouldAnswer (PathAnswers (F.store files.old) (path_of (request_view request.now)) request.now.steps (O.taken out.old) (O.taken out.new))
+        (F.read_faults files.old) (F.read_faults files.new) (O.faults out.old) (O.faults out.new)) }
     ensures err_faults { CountsErr (E.faults err.old) (E.faults err.new) result }
     ensures read_fault { CountsReads (F.read_faults files.old) (F.read_faults files.new) result }
     ensures write_fault { CountsWrites (O.faults out.old) (O.faults out.new) result }
@@ -108,7 +114,7 @@ fn run_request<F: Files, O: Sink, E: Sink>(
     ensures err_stays { E.can_fail err.new → E.can_fail err.old }
 {
     let ended = run_path(alloc, request, files, out);
-    tell(alloc, ended, request.name.as_str(), err)
+    tell(alloc, ended, request.name.as_str(), request.steps, err)
 }
 
 // The same without the line.
@@ -118,7 +124,7 @@ fn run_path<F: Files, O: Sink>(
     files: &mut F,
     out: &mut O,
 ) -> Ended
-    ensures answer { PathAnswers (F.store files.old) (path_of (request_view request.now)) (O.taken out.old) (O.taken out.new) result }
+    ensures answer { PathAnswers (F.store files.old) (path_of (request_view request.now)) request.now.steps (O.taken out.old) (O.taken out.new) result }
     ensures reads { ReadsPath (F.store files.old) (F.store files.new) (path_of (request_view request.now)) result }
     ensures contents { contents_told (F.store files.new) ≡ contents_told (F.store files.old) }
     ensures read_fault { CountsReads (F.read_faults files.old) (F.read_faults files.new) result }
@@ -130,7 +136,7 @@ fn run_path<F: Files, O: Sink>(
     ensures out_stays { O.can_fail out.new → O.can_fail out.old }
 {
     match class_path(request) {
-        Ok(path) => run_file(alloc, path.as_str(), files, out),
+        Ok(path) => run_file(alloc, path.as_str(), request.steps, files, out),
         Err(_) => Ended::Memory,
     }
 }

@@ -13,6 +13,8 @@ pub enum Ended {
     Usage,
     /// The folder has no file of the main class.
     NoMain,
+    /// As many turns were made as the limit, and the run hasn't ended.
+    Stopped,
     /// The file of the main class isn't a class of the first form.
     Unsupported,
     /// A file could not be read.
@@ -33,6 +35,7 @@ pub fn status(ended: Ended) -> u8
         Ended::Exit(code) => code,
         Ended::Usage => 2,
         Ended::NoMain => 4,
+        Ended::Stopped => 8,
         Ended::Unsupported => 9,
         Ended::ReadFault => 11,
         Ended::WriteFault => 12,

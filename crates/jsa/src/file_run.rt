@@ -1,26 +1,25 @@
 //! Runs the class in a file.
 ghost use Rattle.std.specs.Prelude.{◌≡◌, ◌≢◌, ◌≤◌, length, Some, true};
-ghost use Rattle.classfile_reader.specs.declared.parts.TheConstants.{MAX_CODE};
-ghost use Rattle.classfile_reader.specs.Program.{fits};
+ghost use Rattle.classfile_reader.specs.Program.{is_tested};
 ghost use Rattle.jsa.specs.Command.{PathAnswers, FileAnswers, ProgramAnswers, ReadsPath, CountsReads, CountsWrites, contents_told};
 
-use crate::command::STEPS;
 use crate::ended::Ended;
 use classfile_reader::{FormFault, Program, read_program};
 use jsa_base::Quantity;
 use jsa_files::{Files, FilesFault, MAX_FILE, Sink};
 use std::alloc::Global;
-use vm_run::{End, Machine, RunFault, a_fitting_program_exits, run};
+use vm_run::{End, Machine, RunFault, run};
 
 /// Runs the class in the file at the path.
 #[tactic(auto, using(crate::proofs::Ends::path_of_file))]
 pub(crate) fn run_file<F: Files, O: Sink>(
     alloc: Global,
     path: &str,
+    steps: u64,
     files: &mut F,
     out: &mut O,
 ) -> Ended
-    ensures answer { PathAnswers (F.store files.old) path.now (O.taken out.old) (O.taken out.new) result }
+    ensures answer { PathAnswers (F.store files.old) path.now steps (O.taken out.old) (O.taken out.new) result }
     ensures reads { ReadsPath (F.store files.old) (F.store files.new) path.now result }
     ensures contents { contents_told (F.store files.new) ≡ contents_told (F.store files.old) }
     ensures read_fault { CountsReads (F.read_faults files.old) (F.read_faults files.new) result }
@@ -32,7 +31,7 @@ pub(crate) fn run_file<F: Files, O: Sink>(
     ensures out_stays { O.can_fail out.new → O.can_fail out.old }
 {
     match files.read(alloc, path) {
-        Ok(Some(bytes)) => run_bytes(alloc, bytes.as_slice(), out),
+        Ok(Some(bytes)) => run_bytes(alloc, bytes.as_slice(), steps, out),
         Ok(None) => Ended::NoMain,
         Err(FilesFault::Failed) => Ended::ReadFault,
         Err(FilesFault::TooLarge(_)) => Ended::Limit(Quantity::FileSize, MAX_FILE as u64),
@@ -43,16 +42,16 @@ pub(crate) fn run_file<F: Files, O: Sink>(
 
 // Runs the class that the bytes of a file are.
 #[tactic(auto, using(crate::proofs::Ends::file_of_program))]
-fn run_bytes<O: Sink>(alloc: Global, bytes: &[u8], out: &mut O) -> Ended
+fn run_bytes<O: Sink>(alloc: Global, bytes: &[u8], steps: u64, out: &mut O) -> Ended
     requires { length bytes.now ≤ MAX_FILE }
-    ensures answer { FileAnswers (Some bytes.now) (O.taken out.old) (O.taken out.new) result }
+    ensures answer { FileAnswers (Some bytes.now) steps (O.taken out.old) (O.taken out.new) result }
     ensures write_fault { CountsWrites (O.faults out.old) (O.faults out.new) result }
     ensures write_can_fail { result ≡ Ended.WriteFault → O.can_fail out.old }
     ensures out_stays { O.can_fail out.new → O.can_fail out.old }
     ensures outside { result ≢ Ended.ReadFault }
 {
     match read_program(alloc, bytes) {
-        Ok(program) => run_program(alloc, &program, out),
+        Ok(program) => run_program(alloc, &program, steps, out),
         Err(FormFault::NotFirstForm) => Ended::Unsupported,
         Err(FormFault::Memory) => Ended::Memory,
     }
@@ -60,10 +59,9 @@ fn run_bytes<O: Sink>(alloc: Global, bytes: &[u8], out: &mut O) -> Ended
 
 // Runs a program that was tested.
 #[tactic(auto, using(jsa_files::proofs::Taken::front_nothing))]
-fn run_program<O: Sink>(alloc: Global, program: &Program, out: &mut O) -> Ended
-    requires tested { fits program.now.max_stack 0 program.now.instructions ≡ true }
-    requires few { length program.now.instructions ≤ MAX_CODE }
-    ensures answer { ProgramAnswers program.now.instructions (O.taken out.old) (O.taken out.new) result }
+fn run_program<O: Sink>(alloc: Global, program: &Program, steps: u64, out: &mut O) -> Ended
+    requires tested { is_tested program.now ≡ true }
+    ensures answer { ProgramAnswers program.now steps (O.taken out.old) (O.taken out.new) result }
     ensures write_fault { CountsWrites (O.faults out.old) (O.faults out.new) result }
     ensures write_can_fail { result ≡ Ended.WriteFault → O.can_fail out.old }
     ensures out_stays { O.can_fail out.new → O.can_fail out.old }
@@ -71,11 +69,10 @@ fn run_program<O: Sink>(alloc: Global, program: &Program, out: &mut O) -> Ended
     let Ok(mut machine) = Machine::new(alloc) else {
         return Ended::Memory;
     };
-    a_fitting_program_exits();
-    match run(alloc, program, &mut machine, out, STEPS) {
+    match run(alloc, program, &mut machine, out, steps) {
         Ok(Some(End::Exit)) => Ended::Exit(0),
         Ok(Some(End::Stuck)) => unreachable!(),
-        Ok(None) => unreachable!(),
+        Ok(None) => Ended::Stopped,
         Err(RunFault::Write) => Ended::WriteFault,
         Err(RunFault::Memory) => Ended::Memory,
     }

@@ -40,7 +40,7 @@ fn main(rt: HostRuntime) -> ExitCode {
     let mut out = StdSink::new(rt.stdout());
     let mut err = StdSink::new(rt.stderr());
     let Ok(words) = words_of(&rt) else {
-        let ended = tell(alloc, Ended::Memory, "", &mut err);
+        let ended = tell(alloc, Ended::Memory, "", 0, &mut err);
         return ExitCode::from(status(ended));
     };
     let (ended, _files) = run_command(alloc, &words, DiskFiles::new(rt), &mut out, &mut err);

@@ -62,6 +62,17 @@ const DIVIDES: [u8; 157] = [
     0, 0, 0,
 ];
 
+// `main` shifts -1 to the right by 1, with zeros, and puts that.
+const SHIFTS: [u8; 159] = [
+    202, 254, 186, 190, 0, 0, 0, 52, 0, 12, 1, 0, 4, 77, 97, 105, 110, 7, 0, 1, 1, 0, 16, 106, 97,
+    118, 97, 47, 108, 97, 110, 103, 47, 79, 98, 106, 101, 99, 116, 7, 0, 3, 1, 0, 4, 109, 97, 105,
+    110, 1, 0, 22, 40, 91, 76, 106, 97, 118, 97, 47, 108, 97, 110, 103, 47, 83, 116, 114, 105, 110,
+    103, 59, 41, 86, 1, 0, 4, 67, 111, 100, 101, 1, 0, 3, 112, 117, 116, 1, 0, 4, 40, 73, 41, 86,
+    12, 0, 8, 0, 9, 10, 0, 2, 0, 10, 0, 33, 0, 2, 0, 4, 0, 0, 0, 0, 0, 2, 0, 9, 0, 5, 0, 6, 0, 1,
+    0, 7, 0, 0, 0, 19, 0, 2, 0, 1, 0, 0, 0, 7, 2, 4, 124, 184, 0, 11, 177, 0, 0, 0, 0, 1, 9, 0, 8,
+    0, 9, 0, 0, 0, 0,
+];
+
 #[test]
 fn a_sum_is_put_as_a_line(rt: HostRuntime) -> Result<(), Fail> {
     let done = run_main(rt.alloc(), &PUTS_A_SUM)?;
@@ -72,6 +83,14 @@ fn a_sum_is_put_as_a_line(rt: HostRuntime) -> Result<(), Fail> {
     let reads = done.files.reads();
     assert_eq!(rt; reads.len(), 1);
     assert_eq!(rt; reads[0].as_str(), "app/Main.class");
+    Ok(())
+}
+
+#[test]
+fn a_logical_shift_brings_in_zeros(rt: HostRuntime) -> Result<(), Fail> {
+    let done = run_main(rt.alloc(), &SHIFTS)?;
+    assert_eq!(rt; done.ended, Ended::Exit(0));
+    assert_eq!(rt; done.out.bytes(), b"2147483647\n".as_slice());
     Ok(())
 }
 
@@ -164,8 +183,33 @@ Main
 app Main
 -cp app Main Main
 -cp app Main --steps=9
--cp app --steps=9 Main
 --steps=9 -cp app Main
+-cp --steps=9 app Main
+-cp app --steps=9
+-cp app --steps=9 Main Main
+-cp app --steps=9 --steps=9 Main
+-cp app --steps Main
+-cp app --steps 9 Main
+-cp app --step=9 Main
+-cp app -steps=9 Main
+-cp app --steps= Main
+-cp app --steps=x Main
+-cp app --steps=9x Main
+-cp app --steps=-9 Main
+-cp app --steps=+9 Main
+-cp app --steps=9.0 Main
+-cp app --steps=1_000 Main
+-cp app --steps=\u{661} Main
+-cp app --steps=0x Main
+-cp app --steps=0X9 Main
+-cp app --steps=x9 Main
+-cp app --steps=0xg Main
+-cp app --steps=0x+9 Main
+-cp app --steps=18446744073709551616 Main
+-cp app --steps=99999999999999999999 Main
+-cp app --steps=000000000000000000009 Main
+-cp app --steps=0x10000000000000000 Main
+-cp app --steps=0x00000000000000009 Main
 -cp app -cp app Main
 -classpath app Main
 -Xshare:on -cp app Main
@@ -194,6 +238,58 @@ fn refuses_words(rt: &impl Abort, alloc: Global, line: &str) -> Result<(), Fail>
     assert_eq!(rt; done.out.bytes(), b"".as_slice());
     assert_eq!(rt; done.err.bytes(), b"usage\n".as_slice());
     assert_eq!(rt; done.files.reads().len(), 0);
+    Ok(())
+}
+
+// Numbers of turns, and the answer, what is put and what is told after so many. The class ends in its ninth turn.
+static LIMITS: &str = "0 8  stopped after 0 steps/
+4 8  stopped after 4 steps/
+5 8 42/ stopped after 5 steps/
+7 8 42/-1/ stopped after 7 steps/
+8 8 42/-1/ stopped after 8 steps/
+9 0 42/-1/ 
+10 0 42/-1/ 
+0x8 8 42/-1/ stopped after 8 steps/
+0x9 0 42/-1/ 
+00000000000000000004 8  stopped after 4 steps/
+00000000000000000009 0 42/-1/ 
+0x0000000000000009 0 42/-1/ 
+18446744073709551615 0 42/-1/ 
+0xffffffffffffffff 0 42/-1/ 
+0xFFFFFFFFFFFFFFFF 0 42/-1/ ";
+
+// Runs a class with a limit of turns.
+fn run_to(alloc: Global, class: &[u8], limit: &str) -> Result<Done, Fail> {
+    let mut files = MemoryFiles::new(alloc);
+    files.with("app/Main.class", class)?;
+    let steps = format!(in alloc; "--steps={limit}")?;
+    run_words(alloc, &["-cp", "app", steps.as_str(), "Main"], files)
+}
+
+fn stops_at_its_limit(rt: &impl Abort, alloc: Global, line: &str) -> Result<(), Fail> {
+    let mut parts = line.splitn(4, ' ');
+    let limit = parts.next().ok_or("no limit")?;
+    let wanted = parts.next().ok_or("no status")?.parse::<u8>()?;
+    let put = lines_of(alloc, parts.next().ok_or("no output")?)?;
+    let told = lines_of(alloc, parts.next().ok_or("no line")?)?;
+    let done = run_to(alloc, &PUTS_42_AND_MINUS_1, limit)?;
+    assert_eq!(rt; status(done.ended), wanted, "{line}");
+    assert_eq!(rt; done.out.bytes(), put.as_slice(), "{line}");
+    assert_eq!(rt; done.err.bytes(), told.as_slice(), "{line}");
+    Ok(())
+}
+
+#[test]
+fn a_run_stops_at_its_limit_of_turns(rt: HostRuntime) -> Result<(), Fail> {
+    for line in LIMITS.lines() {
+        stops_at_its_limit(&rt, rt.alloc(), line)?;
+    }
+    let done = run_to(rt.alloc(), &PUTS_A_SUM, "8")?;
+    assert_eq!(rt; done.ended, Ended::Stopped);
+    assert_eq!(rt; done.err.bytes(), b"stopped after 8 steps\n".as_slice());
+    let done = run_to(rt.alloc(), &PUTS_A_SUM, "9")?;
+    assert_eq!(rt; done.ended, Ended::Exit(0));
+    assert_eq!(rt; done.out.bytes(), b"42\n".as_slice());
     Ok(())
 }
 
@@ -276,6 +372,134 @@ fn answers_at_each_byte(rt: &impl Abort, alloc: Global, value: u8) -> Result<(),
 fn each_byte_may_be_changed(rt: HostRuntime) -> Result<(), Fail> {
     for value in [0, 1, 2, 7, 10, 12, 96, 127, 128, 177, 184, 255] {
         answers_at_each_byte(&rt, rt.alloc(), value)?;
+    }
+    Ok(())
+}
+
+// Calls that fail: one of the store, one put of out and one of err, each counted from 1, and how many bytes are kept.
+#[derive(Clone, Copy)]
+struct Failing {
+    read: u64,
+    put: u64,
+    told: u64,
+    kept: u64,
+}
+
+const NOTHING_FAILS: Failing = Failing {
+    read: 0,
+    put: 0,
+    told: 0,
+    kept: 0,
+};
+
+// Runs the class that was compiled over an outside that fails. With a limit of 8 turns it puts all and is stopped.
+fn run_failing(alloc: Global, steps: &str, failing: Failing) -> Result<Done, Fail> {
+    let mut files = MemoryFiles::new(alloc);
+    files.with("app/Main.class", &PUTS_42_AND_MINUS_1)?;
+    files.fail(failing.read, failing.kept)?;
+    let mut out = MemorySink::new(alloc);
+    out.fail(failing.put, failing.kept)?;
+    let mut err = MemorySink::new(alloc);
+    err.fail(failing.told, failing.kept)?;
+    let mut words = Vec::new(alloc);
+    for word in ["-cp", "app", steps, "Main"] {
+        words.push(String::from_str(alloc, word)?)?;
+    }
+    let (ended, files) = run_command(alloc, &words, files, &mut out, &mut err);
+    Ok(Done {
+        ended,
+        out,
+        err,
+        files,
+    })
+}
+
+// The first bytes of a text, or all of it.
+fn first(text: &[u8], count: u64) -> &[u8] {
+    &text[..text.len().min(count as usize)]
+}
+
+fn a_read_fails(rt: &impl Abort, alloc: Global, failing: Failing) -> Result<bool, Fail> {
+    let done = run_failing(alloc, "--steps=9", failing)?;
+    if failing.read > 1 {
+        assert_eq!(rt; done.ended, Ended::Exit(0));
+        assert_eq!(rt; done.out.bytes(), b"42\n-1\n".as_slice());
+        assert_eq!(rt; done.files.reads().len(), 1);
+        return Ok(false);
+    }
+    assert_eq!(rt; done.ended, Ended::ReadFault);
+    assert_eq!(rt; status(done.ended), 11);
+    assert_eq!(rt; done.out.bytes(), b"".as_slice());
+    assert_eq!(rt; done.err.bytes(), b"read fault\n".as_slice());
+    assert_eq!(rt; done.files.reads().len(), 0);
+    Ok(true)
+}
+
+fn a_put_fails(rt: &impl Abort, alloc: Global, failing: Failing) -> Result<bool, Fail> {
+    let done = run_failing(alloc, "--steps=9", failing)?;
+    let mut wanted = Vec::new(alloc);
+    for (put, line) in [(1, b"42\n".as_slice()), (2, b"-1\n".as_slice())] {
+        if put < failing.put {
+            wanted.extend_from_slice(line)?;
+        } else if put == failing.put {
+            wanted.extend_from_slice(first(line, failing.kept))?;
+        }
+    }
+    assert_eq!(rt; done.out.bytes(), wanted.as_slice());
+    if failing.put > 2 {
+        assert_eq!(rt; done.ended, Ended::Exit(0));
+        assert_eq!(rt; done.err.bytes(), b"".as_slice());
+        return Ok(false);
+    }
+    assert_eq!(rt; done.ended, Ended::WriteFault);
+    assert_eq!(rt; status(done.ended), 12);
+    assert_eq!(rt; done.err.bytes(), b"write fault\n".as_slice());
+    Ok(true)
+}
+
+fn a_line_fails(rt: &impl Abort, alloc: Global, failing: Failing) -> Result<bool, Fail> {
+    let done = run_failing(alloc, "--steps=8", failing)?;
+    let line = b"stopped after 8 steps\n".as_slice();
+    assert_eq!(rt; done.ended, Ended::Stopped);
+    assert_eq!(rt; done.out.bytes(), b"42\n-1\n".as_slice());
+    if failing.told > 1 {
+        assert_eq!(rt; done.err.bytes(), line);
+        return Ok(false);
+    }
+    assert_eq!(rt; done.err.bytes(), first(line, failing.kept));
+    Ok(true)
+}
+
+// A call of the store, a put of out and a put of err fail in turn, until a run meets no failure.
+fn each_fails_in_turn(rt: &impl Abort, alloc: Global, kept: u64) -> Result<(), Fail> {
+    let mut failing = NOTHING_FAILS;
+    failing.kept = kept;
+    for read in 1..10 {
+        failing.read = read;
+        assert_eq!(rt; a_read_fails(rt, alloc, failing)?, read == 1);
+    }
+    failing.read = 0;
+    for put in 1..10 {
+        failing.put = put;
+        assert_eq!(rt; a_put_fails(rt, alloc, failing)?, put <= 2);
+    }
+    failing.put = 0;
+    for told in 1..10 {
+        failing.told = told;
+        assert_eq!(rt; a_line_fails(rt, alloc, failing)?, told == 1);
+    }
+    failing.read = 1;
+    failing.told = 1;
+    let done = run_failing(alloc, "--steps=9", failing)?;
+    assert_eq!(rt; done.ended, Ended::ReadFault);
+    assert_eq!(rt; done.err.bytes(), first(b"read fault\n".as_slice(), kept));
+    Ok(())
+}
+
+#[test]
+fn each_failure_of_the_outside_is_told_and_loses_nothing(rt: HostRuntime) -> Result<(), Fail> {
+    for kept in 0..25 {
+        each_fails_in_turn(&rt, rt.alloc(), kept)?;
     }
     Ok(())
 }

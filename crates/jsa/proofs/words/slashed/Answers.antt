@@ -4,8 +4,8 @@ use Rattle.std.specs.List.{list_all, join_with_byte}
 use Rattle.std.proofs.lemmas.List.{map_push}
 use Rattle.std.proofs.lemmas.Iterator.Consumers.{YieldsList-so_far, YieldsList-end}
 use Rattle.std.proofs.lemmas.Iterator.Splits.{YieldsList-from_str_split}
-use Rattle.jsa.specs.Words.{is_segment, segments_of, with_segment}
-use Rattle.jsa.proofs.Segments.{front_all, joined}
+use Rattle.jsa.specs.Words.{is_segment, segments_of}
+use Rattle.jsa.proofs.Segments.{with_segment, front_all, joined}
 use Rattle.jsa.proofs.words.slashed.Goals as goal
 
 pub loop-segment-preserved : goal.loop-segment-preserved
