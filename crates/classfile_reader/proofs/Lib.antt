@@ -1,3 +1,4 @@
 pub mod Loop
 pub mod PartsCodecs
 pub mod Programs
+pub mod InnerNames

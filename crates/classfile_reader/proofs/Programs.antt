@@ -16,7 +16,7 @@ use Rattle.classfile_reader.specs.FirstForm.{IsFirstForm, Accepts, OneProgram, C
 use Rattle.classfile_reader.proofs.PartsCodecs.{class_codec, code_codec}
 
 -- a whole text is read again
-whole_again : {A : Type 0} (read : List ℕ → Read A) (spell : A → List ℕ) (Fits : A → Type 0) → Codec read spell Fits → (x : A) → Fits x → all_read (read (spell x)) ≡ Some x
+pub whole_again : {A : Type 0} (read : List ℕ → Read A) (spell : A → List ℕ) (Fits : A → Type 0) → Codec read spell Fits → (x : A) → Fits x → all_read (read (spell x)) ≡ Some x
 whole_again read spell Fits c x fits = ap (λ (b : List ℕ). all_read (read b)) (sym (append-nil (spell x))) ∙ ap all_read (c.again x [] fits)
 
 pub program_takes : (bytes : List ℕ) (program : Program) → IsBytes bytes → program_at bytes ≡ Some program → IsFirstForm bytes program

@@ -6,6 +6,7 @@ mod fault;
 mod fitting;
 mod form;
 mod instructions;
+mod name_reading;
 mod names;
 mod parts;
 mod program;
@@ -16,6 +17,7 @@ mod tests;
 mod texts;
 
 pub use fault::FormFault;
+pub use name_reading::{each_class_is_named, one_name, read_name};
 pub use parts::{Attribute, ClassParts, CodeParts, Handler, MAX_CODE, Member, PoolEntry};
 pub use program::{Instruction, Program};
 pub use program_reading::{code_is_spelled, one_program, read_program};

@@ -65,7 +65,7 @@ fn init_is_good(alloc: Global, p: &ClassParts) -> Result<bool, FormFault>
 }
 
 #[tactic(auto, unfolding(crate::specs::Program::program_of))]
-fn program_of(alloc: Global, p: &ClassParts) -> Result<Program, FormFault>
+pub(crate) fn program_of(alloc: Global, p: &ClassParts) -> Result<Program, FormFault>
     ensures exact { Yields result (program.program_of p.now) }
     ensures tested { IfOk result (λ r. program.is_tested r ≡ true) }
     ensures few { IfOk result (λ r. length r.instructions ≤ MAX_CODE) }
@@ -95,7 +95,8 @@ fn read(alloc: Global, bytes: &[u8]) -> Result<Program, FormFault>
     program_of(alloc, &parts)
 }
 
-fn are_bytes(bytes: &[u8])
+// What the type says.
+pub(crate) fn are_bytes(bytes: &[u8])
     ensures { IsBytes bytes.now }
 {
     Cursor::new(bytes).are_bytes();

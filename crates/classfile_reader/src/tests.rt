@@ -1,5 +1,8 @@
 // What no contract says: that a class of the first form is read where memory suffices.
-use crate::{FormFault, Instruction, code_is_spelled, one_program, read_program};
+use crate::{
+    FormFault, Instruction, code_is_spelled, each_class_is_named, one_name, one_program, read_name,
+    read_program,
+};
 use std::alloc::Global;
 use std::process::Abort;
 use std::test::Fail;
@@ -36,6 +39,22 @@ fn a_sum_is_read(rt: HostRuntime) -> Result<(), Fail> {
 #[test]
 fn a_cut_class_is_refused(rt: HostRuntime) -> Result<(), Fail> {
     let cut = read_program(rt.alloc(), &PUTS_42[..159]);
+    assert_eq!(rt; cut.err(), Some(FormFault::NotFirstForm));
+    Ok(())
+}
+
+#[test]
+fn the_name_inside_is_read(rt: HostRuntime) -> Result<(), Fail> {
+    let name = read_name(rt.alloc(), &PUTS_42)?;
+    assert_eq!(rt; name.as_slice(), b"Main".as_slice());
+    one_name();
+    each_class_is_named();
+    Ok(())
+}
+
+#[test]
+fn a_cut_class_has_no_name(rt: HostRuntime) -> Result<(), Fail> {
+    let cut = read_name(rt.alloc(), &PUTS_42[..159]);
     assert_eq!(rt; cut.err(), Some(FormFault::NotFirstForm));
     Ok(())
 }
