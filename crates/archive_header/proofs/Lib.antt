@@ -8,3 +8,9 @@ pub mod NameSearch
 pub mod FirstChanged
 pub mod Pushes
 pub mod ShortTexts
+pub mod Told
+pub mod Listed
+pub mod FoldersMade
+pub mod FileTurns
+pub mod FolderTurns
+pub mod Stages

@@ -6,6 +6,8 @@ use Rattle.std.specs.Ordering.{is_lt, nat_cmp}
 use Rattle.std.specs.Cmp.Lexicographic.{slice_cmp}
 use Rattle.std.specs.Str.{is_utf8}
 use Rattle.jsa_base.specs.Reading.{◌>>=◌}
+use Rattle.loader_rules.specs.declared.loader.Loader.{Loader}
+use Rattle.loader_rules.specs.declared.loader.Loader.TheVariants.{Boot, Platform, App}
 use Rattle.archive_header.specs.declared.folders.ListedFile.{ListedFile}
 use Rattle.archive_header.specs.declared.folders.Folder.{Folder}
 use Rattle.archive_header.specs.declared.folders.Folders.{Folders}
@@ -18,6 +20,14 @@ folder_of m number =
     if number == 0 then m.boot
     else if number == 1 then m.platform
     else slice_get m.app (number - 2)
+
+-- the loader whose folders have this number
+abbrev pub loader_at : ℕ → Loader
+loader_at number = if number == 0 then Boot else if number == 1 then Platform else App
+
+-- the loader of a folder that is there
+abbrev pub loader_of : Folders → ℕ → Option Loader
+loader_of m number = option_map (λ _. loader_at number) (folder_of m number)
 
 abbrev pub path_of : Folders → ℕ → Option (List ℕ)
 path_of m number = option_map (λ f. f.path) (folder_of m number)

@@ -5,7 +5,7 @@ ghost use Rattle.archive_header.specs.Folders as lists;
 ghost use Rattle.archive_header.specs.Changes as spec;
 
 use crate::folders::{Folder, Folders, ListedFile};
-use crate::manifest::Manifest;
+use crate::manifest_type::Manifest;
 
 fn is_same_file(kept: &ListedFile, now: &ListedFile) -> bool
     ensures { result ≡ spec.is_same_file kept.now now.now }

@@ -6,8 +6,9 @@ mod changes;
 mod folders;
 mod header;
 mod header_reading;
-mod manifest;
+mod manifest_making;
 mod manifest_reading;
+mod manifest_type;
 mod manifest_writing;
 mod refuse;
 
@@ -15,11 +16,14 @@ pub use changes::first_changed;
 pub use folders::{Folder, Folders, ListedFile, are_folders};
 pub use header::{FORMAT, Header, headers_are_read_again, write_header};
 pub use header_reading::read_header;
-pub use manifest::{Manifest, one_manifest, read_manifest, write_manifest};
+pub use manifest_making::manifest;
+pub use manifest_type::{Manifest, one_manifest, read_manifest, write_manifest};
 pub use refuse::Refuse;
 
 #[cfg(test)]
 mod header_tests;
+#[cfg(test)]
+mod making_tests;
 #[cfg(test)]
 mod manifest_tests;
 #[cfg(test)]

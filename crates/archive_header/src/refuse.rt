@@ -15,7 +15,8 @@ pub enum Refuse {
     Layer { kept: [u8; 32], found: [u8; 32] },
     /// The bytes break a rule of the format.
     Malformed,
-    /// The folder of this number has another path or another list of files now: boot 0, platform 1, application from 2.
+    /// The folder of this number is absent now or has another path or another list of files, or it is a boot or platform
+    /// folder that is there now and wasn't when the archive was made: boot 0, platform 1, application from 2.
     Path(u32),
     /// The archive cannot stand at this base: the base and the number of bytes from there on.
     Base { base: u64, span: u64 },

@@ -1,5 +1,5 @@
 use Rattle.archive_header.proofs.Manifests.{one_is}
-use Rattle.archive_header.proofs.manifest.one_manifest.Goals as goal
+use Rattle.archive_header.proofs.manifest_type.one_manifest.Goals as goal
 
 pub returns : goal.returns
 returns c = one_is

@@ -5,7 +5,7 @@ use Rattle.jsa_base.proofs.Codecs.{some_is}
 use Rattle.archive_header.specs.declared.folders.Folders.{Folders}
 use Rattle.archive_header.specs.ManifestBytes.{manifest_of}
 use Rattle.archive_header.proofs.Manifests.{takes, again}
-use Rattle.archive_header.proofs.manifest.read_manifest.Goals as goal
+use Rattle.archive_header.proofs.manifest_type.read_manifest.Goals as goal
 
 pub new-requires : goal.new-requires
 new-requires c =

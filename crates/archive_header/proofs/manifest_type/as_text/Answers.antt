@@ -1,5 +1,5 @@
 use Rattle.std.proofs.lemmas.Str.{IsUtf8-from_is_utf8}
-use Rattle.archive_header.proofs.manifest.as_text.Goals as goal
+use Rattle.archive_header.proofs.manifest_type.as_text.Goals as goal
 
 pub unreachable-requires : goal.unreachable-requires
 unreachable-requires c = c.in-Err.ensures.cases.0 (IsUtf8-from_is_utf8 c.args.bytes.now c.requires)

@@ -11,6 +11,7 @@ ghost use Rattle.archive_header.specs.ManifestBytes as spec;
 use crate::folders::{Folder, Folders, ListedFile, folder_of};
 use crate::manifest_reading::{Unread, whole_manifest};
 use crate::manifest_writing::{have_short_texts, push_folders, push_padding};
+use loader_rules::Loader;
 use sqlite_items::at;
 use std::alloc::{AllocError, Global};
 use std::cmp::Ordering;
@@ -62,6 +63,18 @@ fn place_of(files: &[ListedFile], name: &[u8]) -> Option<usize>
     files.binary_search_by(|file| compared(file, name)).ok()
 }
 
+fn loader_at(folder: u32) -> Loader
+    ensures { result ≡ lists.loader_at folder }
+{
+    if folder == 0 {
+        return Loader::Boot;
+    }
+    if folder == 1 {
+        return Loader::Platform;
+    }
+    Loader::App
+}
+
 impl Manifest {
     /// A manifest of these folders.
     pub fn new(folders: Folders) -> Manifest
@@ -92,6 +105,16 @@ impl Manifest {
         ensures listed { IfSome result (λ folder. IsTrue (lists.is_folder folder.now)) }
     {
         folder_of(&self.folders, number)
+    }
+
+    /// The loader whose folder has this number. `None` exactly where there is no such folder.
+    pub fn loader_of(&self, folder: u32) -> Option<Loader>
+        ensures { result ≡ lists.loader_of self.now folder }
+    {
+        match self.folder(folder) {
+            Some(_) => Some(loader_at(folder)),
+            None => None,
+        }
     }
 
     /// The path of the folder of a number, as it was written. `None` exactly where there is no such folder.
@@ -146,8 +169,8 @@ pub fn write_manifest(alloc: Global, manifest: &Manifest) -> Result<Vec<u8>, All
 }
 
 /// The manifest whose bytes these are. `None` exactly where they are those of none: where they are cut, there are two
-/// boot or platform folders, a path or a name isn't UTF-8, the names of a folder don't ascend strictly by their bytes,
-/// or anything but the zeros to a multiple of 8 stands behind the last folder.
+/// boot or platform folders or 2^32 - 1 application folders, a path or a name isn't UTF-8, the names of a folder don't
+/// ascend strictly by their bytes, or anything but the zeros to a multiple of 8 stands behind the last folder.
 pub fn read_manifest(alloc: Global, bytes: &[u8]) -> Result<Option<Manifest>, AllocError>
     // What is read is written so.
     ensures found { IfOk result (λ read. IfSome read (λ manifest. spec.SpellsManifest bytes.now manifest)) }

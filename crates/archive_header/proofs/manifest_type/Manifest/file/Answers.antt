@@ -2,7 +2,7 @@ use Rattle.std.proofs.Common.{◌≡◌, List, Some, slice_get, sym, ap, ◌∙�
 use Rattle.std.specs.Option.{option_copied}
 use Rattle.archive_header.specs.declared.folders.ListedFile.{ListedFile}
 use Rattle.archive_header.proofs.Places.{name_is_text}
-use Rattle.archive_header.proofs.manifest.Manifest.file.Goals as goal
+use Rattle.archive_header.proofs.manifest_type.Manifest.file.Goals as goal
 
 pub as_text-requires : goal.as_text-requires
 as_text-requires c =

@@ -3,7 +3,7 @@ use Rattle.std.specs.Ordering.{nat_cmp}
 use Rattle.std.specs.Cmp.Lexicographic.{slice_cmp}
 use Rattle.std.proofs.lemmas.Fn.{always_returns_same}
 use Rattle.archive_header.proofs.NameSearch.{place_is, place_is_within}
-use Rattle.archive_header.proofs.manifest.place_of.Goals as goal
+use Rattle.archive_header.proofs.manifest_type.place_of.Goals as goal
 
 -- the closure compares a file's name
 pub returns-clause-place : goal.returns-clause-place
