@@ -1,0 +1,4 @@
+pub mod Fronts
+pub mod Regions
+pub mod Archives
+pub mod Stages
