@@ -1,5 +1,17 @@
 pub mod Segments
 pub mod Tells
 pub mod Ends
+pub mod Growth
+pub mod Archives
+pub mod Gathers
+pub mod Commands
 pub mod Completes
+pub mod Inserted
+pub mod Ascii
+pub mod ArchivePaths
+pub mod Headline
+pub mod Distinct
+pub mod Dumping
 pub mod Numerals
+pub mod Options
+pub mod Names

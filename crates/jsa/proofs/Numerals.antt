@@ -1,5 +1,5 @@
 -- Numbers in words, as they are read.
-use Rattle.std.proofs.Common.{String, map, ◌≡◌, ◌≢◌, ◌<◌, ◌≤◌, ◌^◌, arith, subst, ℕ, ◌++◌, ◌==◌, List, [], ◌∷◌, length, drop, Bool, true, false, not, ◌&&◌, Option, Some, None, cond, refl, sym, ap, ◌∙◌}
+use Rattle.std.proofs.Common.{◌≡◌, ◌≢◌, ◌<◌, ◌≤◌, ◌^◌, arith, subst, ℕ, ◌++◌, ◌==◌, List, [], ◌∷◌, length, drop, Bool, true, false, not, ◌&&◌, Option, Some, None, cond, refl, sym, ap, ◌∙◌}
 use Rattle.std.specs.Prelude.{MatchOption, nat_le, nat_lt, Result, Ok, Err}
 use Rattle.std.specs.Char.{is_digit, digit_value}
 use Rattle.std.specs.List.{list_all}
@@ -9,9 +9,7 @@ use Rattle.std.specs.Option.{option_copied}
 use Rattle.std.specs.Str.Pattern.{FindsTextPrefix, StripsPrefix}
 use denote.Ref.{Bor}
 use Rattle.std.proofs.lemmas.Bool.{eqb-true, eq-eqb, ltb-true, lt-ltb, and_parts}
-use Rattle.std.specs.String.{string_bytes}
-use Rattle.std.specs.Global.{Global}
-use Rattle.jsa.specs.Words.{behind, is_numeral, numeral, request_of}
+use Rattle.jsa.specs.Words.{behind, is_numeral, numeral}
 
 eq_refl : (n : ℕ) → (n == n) ≡ true
 eq_refl n = eq-eqb n n refl
@@ -79,10 +77,3 @@ numeral_of {E} radix most digits r le is read =
     by_answer (Ok x) t e h is = ap Some h.1 ∙ sym (ap (λ (b : Bool). cond b (Some (digits_value radix digits)) None) (lt-ltb (digits_value radix digits) (2 ^ 64) h.0.1))
     by_answer (Err f) true e h is = absurd (h (is, ltb-true (digits_value radix digits) (2 ^ 64) e))
     by_answer (Err f) false e h is = sym (ap (λ (b : Bool). cond b (Some (digits_value radix digits)) None) e)
-
--- Words that are too few.
-pub too_few : (words : List (String Global)) → length words < 2 → request_of (map string_bytes words) ≡ None
-unfolding request_of
-too_few [] h = refl
-too_few (a ∷ []) h = refl
-too_few (a ∷ b ∷ others) h = absurd (omega (arith, h))

@@ -1,63 +1,49 @@
 -- What err took of a line.
-use Rattle.std.proofs.Common.{◌≡◌, ◌≢◌, ◌≤◌, ◌⊎◌, subst, inl, inr, refl, ℕ, List, [], Option, Some, None}
+use Rattle.std.proofs.Common.{◌≡◌, ◌≢◌, ◌≤◌, ◌⊎◌, subst, sym, inl, inr, refl, ℕ, List, [], Option}
 use Rattle.jsa_files.specs.Sinks.{GrowsByFront}
-use Rattle.jsa_files.specs.Store.{Store}
-use Rattle.jsa.specs.Words.{Request, path_of}
-use Rattle.jsa.specs.Command.{PathAnswers, RequestAnswers, CouldAnswer, CountsReads, CountsWrites}
-use Rattle.jsa.specs.Lines.{TakesFront, TakesSomeFront, CountsErr, line_of}
+use Rattle.jsa.specs.Command.{Answered, CouldAnswer, TakesSomeFront, CountsReads}
+use Rattle.jsa.specs.Completes.{IsOrMemory}
+use Rattle.jsa.specs.Lines.{TakesFront, TakesLine, CountsErr, line_of}
 use Rattle.jsa.specs.declared.ended.Ended.{Ended}
-use Rattle.jsa.specs.declared.ended.Ended.TheVariants.{Exit, Usage, NoMain, Stopped, Unsupported, ReadFault, WriteFault, Limit, Memory}
+use Rattle.jsa.specs.declared.ended.Ended.TheVariants.{Exit, Usage, NoMain, Missing, NotShared, Stopped, Unsupported, ReadFault, WriteFault, Limit, Memory}
 
 -- The line of want of memory tells neither a name nor a limit.
-pub memory_front : (a b : Option (List ℕ)) (ended : Ended) (name : List ℕ) (steps : ℕ) → GrowsByFront a b (line_of Memory [] 0) → TakesFront a b ended name steps
+pub memory_front : (a b : Option (List ℕ)) (ended : Ended) (subject : List ℕ) (steps : ℕ) → GrowsByFront a b (line_of Memory [] 0) → TakesFront a b ended subject steps
 unfolding line_of
-memory_front a b ended name steps h = inr h
+memory_front a b ended subject steps h = inr h
 
-pub memory_told : (a b : Option (List ℕ)) (request : Option Request) (IsAnswer : Ended → Type 0) → TakesFront a b Memory [] 0 → TakesSomeFront a b request IsAnswer
+-- Memory ran out before there was an end.
+pub memory_told : (a b : Option (List ℕ)) (Answers : List ℕ → Ended → Type 0) (Writes : Ended → Type 0) (steps r0 r1 : ℕ) → TakesFront a b Memory [] 0 → TakesSomeFront Answers Writes steps a b r0 r1
 unfolding line_of
-memory_told a b None IsAnswer (inl h) = record { told = Memory; why = inl refl; front = h }
-memory_told a b None IsAnswer (inr h) = record { told = Memory; why = inl refl; front = h }
-memory_told a b (Some request) IsAnswer (inl h) = record { told = Memory; why = inl refl; front = h }
-memory_told a b (Some request) IsAnswer (inr h) = record { told = Memory; why = inl refl; front = h }
+memory_told a b Answers Writes steps r0 r1 (inl h) = record { told = Memory; subject = []; why = inl refl; front = h }
+memory_told a b Answers Writes steps r0 r1 (inr h) = record { told = Memory; subject = []; why = inl refl; front = h }
 
-some_front : (a b : Option (List ℕ)) (ended : Ended) (request : Request) (IsAnswer : Ended → Type 0) → IsAnswer ended → TakesFront a b ended request.name request.steps → TakesSomeFront a b (Some request) IsAnswer
-some_front a b ended request IsAnswer is (inl h) = record { told = ended; why = inr is; front = h }
-some_front a b ended request IsAnswer is (inr h) = record { told = Memory; why = inl refl; front = h }
+-- An end was told, or memory ran out in telling it.
+pub told : (Answers : List ℕ → Ended → Type 0) (subject : List ℕ) (steps : ℕ) (a b : Option (List ℕ)) (old new : ℕ) (can_fail : Type 0) (ended result : Ended)
+    → Answers subject ended → Answers subject Memory → IsOrMemory result ended → (result ≢ Memory → TakesLine a b old new can_fail (line_of ended subject steps)) → Answered Answers steps a b old new can_fail result
+told Answers subject steps a b old new can_fail ended result is or (inl e) line = record {
+  subject = subject;
+  answer = subst (λ (r : Ended). Answers subject r) (sym e) is;
+  line = λ other. subst (λ (r : Ended). TakesLine a b old new can_fail (line_of r subject steps)) (sym e) (line other);
+}
+told Answers subject steps a b old new can_fail ended result is or (inr e) line = record {
+  subject = subject;
+  answer = subst (λ (r : Ended). Answers subject r) (sym e) or;
+  line = λ other. absurd (other e);
+}
 
-pub could_front : (a b : Option (List ℕ)) (ended : Ended) (request : Request) (Answers : Ended → Type 0) (r0 r1 w0 w1 : ℕ) → Answers ended → CountsReads r0 r1 ended → CountsWrites w0 w1 ended → TakesFront a b ended request.name request.steps
-    → TakesSomeFront a b (Some request) (CouldAnswer Answers r0 r1 w0 w1)
-could_front a b ended request Answers r0 r1 w0 w1 is reads writes h = some_front a b ended request (CouldAnswer Answers r0 r1 w0 w1) (record { cause = is; reads = reads; writes = writes }) h
-
--- Words outside the grammar, where memory ran out in telling that.
-pub usage_front : (a b : Option (List ℕ)) (request : Option Request) (IsAnswer : Ended → Type 0) → None ≡ request → IsAnswer Usage → TakesFront a b Usage [] 0 → TakesSomeFront a b request IsAnswer
+pub could_front : (Answers : List ℕ → Ended → Type 0) (Writes : Ended → Type 0) (subject : List ℕ) (steps : ℕ) (a b : Option (List ℕ)) (ended : Ended) (r0 r1 : ℕ) → Answers subject ended → CountsReads r0 r1 ended → Writes ended → TakesFront a b ended subject steps
+    → TakesSomeFront Answers Writes steps a b r0 r1
 unfolding line_of
-usage_front a b None IsAnswer e is (inl h) = record { told = Usage; why = inr is; front = h }
-usage_front a b None IsAnswer e is (inr h) = record { told = Memory; why = inl refl; front = h }
-usage_front a b (Some request) IsAnswer e is h = absurd cc
-
-usage_is : (request : Option Request) (store : Option Store) (out : Option (List ℕ)) → None ≡ request → RequestAnswers request store out out Usage
-usage_is None store out e = (inl refl, refl)
-usage_is (Some request) store out e = absurd cc
-
-pub could_usage : (request : Option Request) (store : Option Store) (out : Option (List ℕ)) (reads writes : ℕ) → None ≡ request → CouldAnswer (RequestAnswers request store out out) reads reads writes writes Usage
-could_usage request store out reads writes e = record { cause = usage_is request store out e; reads = refl; writes = refl }
-
--- What was told of the request is told of the words that ask for it.
-pub request_front : (a b : Option (List ℕ)) (words : Option Request) (request : Request) (store : Option Store) (before after : Option (List ℕ)) (r0 r1 w0 w1 : ℕ) → Some request ≡ words
-    → TakesSomeFront a b (Some request) (CouldAnswer (PathAnswers store (path_of request) request.steps before after) r0 r1 w0 w1)
-    → TakesSomeFront a b words (CouldAnswer (RequestAnswers words store before after) r0 r1 w0 w1)
-request_front a b words request store before after r0 r1 w0 w1 e h =
-    subst (λ (o : Option Request). TakesSomeFront a b o (CouldAnswer (RequestAnswers o store before after) r0 r1 w0 w1)) e (record { told = h.told; why = could h.told h.why; front = h.front })
-  where
-    could : (told : Ended) → (told ≡ Memory) ⊎ CouldAnswer (PathAnswers store (path_of request) request.steps before after) r0 r1 w0 w1 told
-        → (told ≡ Memory) ⊎ CouldAnswer (RequestAnswers (Some request) store before after) r0 r1 w0 w1 told
-    could told (inl is) = inl is
-    could told (inr is) = inr (record { cause = is.cause; reads = is.reads; writes = is.writes })
+could_front Answers Writes subject steps a b ended r0 r1 is reads writes (inl h) = record { told = ended; subject = subject; why = inr (record { cause = is; reads = reads; writes = writes }); front = h }
+could_front Answers Writes subject steps a b ended r0 r1 is reads writes (inr h) = record { told = Memory; subject = subject; why = inl refl; front = h }
 
 counts_other : (before now : ℕ) (ended : Ended) → ((code : ℕ) → ended ≢ Exit code) → before ≤ now → CountsErr before now ended
 counts_other before now (Exit code) other h = absurd (other code refl)
 counts_other before now Usage other h = h
 counts_other before now NoMain other h = h
+counts_other before now Missing other h = h
+counts_other before now (NotShared refuse) other h = h
 counts_other before now Stopped other h = h
 counts_other before now Unsupported other h = h
 counts_other before now ReadFault other h = h
@@ -67,3 +53,15 @@ counts_other before now Memory other h = h
 
 pub counts_err : (before now : ℕ) (ended : Ended) → ((code : ℕ) → ended ≢ Exit code) → before ≤ now → CountsErr before now ended
 counts_err before now ended other h = counts_other before now ended other h
+
+-- What holds of each answer.
+pub answered_as : (A B : List ℕ → Ended → Type 0) (steps : ℕ) (a b : Option (List ℕ)) (old new : ℕ) (can_fail : Type 0) (ended : Ended) → ((subject : List ℕ) (e : Ended) → A subject e → B subject e) → Answered A steps a b old new can_fail ended → Answered B steps a b old new can_fail ended
+answered_as A B steps a b old new can_fail ended f h = record { subject = h.subject; answer = f h.subject ended h.answer; line = h.line }
+
+pub front_as : (A B : List ℕ → Ended → Type 0) (V W : Ended → Type 0) (steps : ℕ) (a b : Option (List ℕ)) (r0 r1 r2 : ℕ) → ((subject : List ℕ) (e : Ended) → A subject e → B subject e) → ((e : Ended) → V e → W e) → r1 ≡ r0
+    → TakesSomeFront A V steps a b r1 r2 → TakesSomeFront B W steps a b r0 r2
+front_as A B V W steps a b r0 r1 r2 f w e h = record { told = h.told; subject = h.subject; why = could h.told h.why; front = h.front }
+  where
+    could : (t : Ended) → (t ≡ Memory) ⊎ CouldAnswer (A h.subject) V r1 r2 t → (t ≡ Memory) ⊎ CouldAnswer (B h.subject) W r0 r2 t
+    could t (inl is) = inl is
+    could t (inr is) = inr (record { cause = f h.subject t is.cause; reads = subst (λ (r : ℕ). CountsReads r r2 t) e is.reads; writes = w t is.writes })

@@ -1,31 +1,46 @@
 //! The top call.
-ghost use Rattle.std.specs.Prelude.{◌≡◌, ◌≢◌, map, Some};
-ghost use Rattle.jsa_files.specs.Causes.{Rose};
+ghost use Rattle.std.specs.Prelude.{◌≡◌, Some, map};
 ghost use Rattle.std.specs.String.{string_bytes};
-ghost use Rattle.jsa.specs.Command.{RequestAnswers, RequestCompletes, CouldAnswer, ReadsRequest, PathAnswers, ReadsPath, CountsReads, CountsWrites, contents_told};
-ghost use Rattle.jsa.specs.Words.{request_of, path_of};
-ghost use Rattle.jsa.specs.Requests.{request_view};
-ghost use Rattle.jsa.specs.Lines.{line_for, TakesLine, TakesSomeFront, CountsErr};
+ghost use Rattle.jsa.specs.Stores.{contents_told};
+ghost use Rattle.jsa.specs.Lines.{CountsErr};
+ghost use Rattle.jsa.specs.Command.{RunAnswers, run_subject, archive_or, RequestAnswers, Answered, TakesSomeFront, CountsReads, CountsWrites, CountsDump, CountsFor, CanFailWrites, Leaves, ClassFilesStay, steps_of};
+ghost use Rattle.jsa_files.specs.Causes.{Rose};
+ghost use Rattle.jsa.specs.Completes.{RequestCompletes};
+ghost use Rattle.jsa.specs.Headline.{RunsAsFromFile};
+ghost use Rattle.jsa.specs.ClassList.{class_list};
+ghost use Rattle.jsa.specs.Dumps.{Listed};
+ghost use Rattle.jsa.specs.Steps.{texts_of};
+ghost use Rattle.jsa.specs.Words.{request_of, Run, Dump};
+ghost use Rattle.jsa.specs.Requests.{command_view, run_view, dump_view};
 
+use crate::archive_run::run_archived;
+use crate::dump::{dump_names, read_names};
 use crate::ended::Ended;
-use crate::file_run::run_file;
+use crate::file_run::run_path;
+use crate::gathering::subject_at;
 use crate::lines::tell;
-use crate::words::{RunWords, class_path, read_words};
+use crate::words::{Command, DumpWords, RunWords, read_words};
 use jsa_files::{Files, Sink};
 use std::alloc::Global;
 
 /// Does what the words after the program's name ask for, and puts the end's line to `err`. The store comes back with
 /// every answer.
 ///
-/// - `Usage`: the words aren't `-cp`, a folder, at most one `--steps=N` and a main class.
-/// - `NoMain`: the folder has no file of the main class.
-/// - `Limit`: the file is larger than `MAX_FILE` bytes.
-/// - `Unsupported`: the file is no class of the first form.
-/// - `Exit(0)`: the class ran, and `out` took what its `main` put.
+/// - `Usage`: the words are neither those of a run nor those of a dump.
+/// - `NoMain`: no mapped archive holds the main class, and the folder has no file of it.
+/// - `Missing`: the class list of a dump isn't there.
+/// - `NotShared`: the archive of a run with `-Xshare:on` is refused, for the first cause that holds.
+/// - `Limit`: the first of these that passes its limit in the order in which they are met: `FileSize`, where the archive
+///   of a run, the class list of a dump, a class file of the folder where an archive is given, or the class's file has
+///   more than `MAX_FILE` bytes; `Names`, where the folder has more than `MAX_NAMES` class files and an archive is given;
+///   `Classes`, where a dump lists more than 65,535; `ArchiveSize`, where a dump's archive has more than 67,108,864 bytes.
+/// - `Unsupported`: the main class is no class of the first form; a listed name has no file, or one that is no such class
+///   or has another name inside.
+/// - `Exit(0)`: the class ran, and `out` took what its `main` put; or the archive was written, and `out` took how many
+///   classes it holds.
 /// - `Stopped`: as many turns were made as the limit, and `main` hasn't returned.
-/// - `ReadFault`, `WriteFault`: the store failed at reading the file, `out` at a put.
+/// - `ReadFault`, `WriteFault`: the store failed at reading a file, or `out` at a put or the store at writing the archive.
 /// - `Memory`: memory ran out; this may come in place of any answer.
-#[tactic(auto, using(crate::proofs::Tells::memory_told, crate::proofs::Ends::no_memory_answers, crate::proofs::Ends::no_memory_reads, crate::proofs::Completes::completes))]
 pub fn run_command<F: Files, O: Sink, E: Sink>(
     alloc: Global,
     words: &[String],
@@ -33,36 +48,33 @@ pub fn run_command<F: Files, O: Sink, E: Sink>(
     out: &mut O,
     err: &mut E,
 ) -> (Ended, F)
-    // The answer is the one that the words and the file have, and out took what goes with it.
-    ensures answer { RequestAnswers (request_of (map string_bytes words.now)) (F.store files)
-        (O.taken out.old) (O.taken out.new) result.0 }
+    // The answer is the one that the words and what is in the store have, out took what goes with it, and err its line.
+    ensures answer { Answered (RequestAnswers (request_of (map string_bytes words.now)) (F.store files) (F.store result.1) (F.write_faults files, F.write_faults result.1) (O.taken out.old) (O.taken out.new)) (steps_of (request_of (map string_bytes words.now)))
+        (E.taken err.old) (E.taken err.new) (E.faults err.old) (E.faults err.new) (E.can_fail err.old) result.0 }
 
     // Where the store tells and no call of it or of out failed, each cause has its answer, unless memory runs out.
-    ensures complete { ¬ (Rose (F.read_faults files) (F.read_faults result.1)) → ¬ (Rose (O.faults out.old) (O.faults out.new))
-        → RequestCompletes (request_of (map string_bytes words.now)) (F.store files)
-        (O.taken out.old) (O.taken out.new) result.0 }
+    ensures complete { ¬ (Rose (F.read_faults files) (F.read_faults result.1)) → ¬ (Rose (F.write_faults files) (F.write_faults result.1)) → ¬ (Rose (O.faults out.old) (O.faults out.new))
+        → RequestCompletes (request_of (map string_bytes words.now)) (F.store files) (F.store result.1) (O.taken out.old) (O.taken out.new) result.0 }
 
-    // The main class's file is read once and no other is, and the store holds what it held.
-    ensures reads { ReadsRequest (request_of (map string_bytes words.now)) (F.store files) (F.store result.1) result.0 }
-    ensures contents { contents_told (F.store result.1) ≡ contents_told (F.store files) }
+    // Where the store tells, a run that is given an archive that a dump wrote is the run that reads the class's file, if no
+    // two class files clash.
+    ensures headline { RunsAsFromFile (request_of (map string_bytes words.now)) (F.store files) (O.taken out.old) (O.taken out.new) result.0 }
 
-    // Err takes the end's line; where memory ran out, a front of the line of that, or of the answer that it took the
-    // place of.
-    ensures line { result.0 ≢ Ended.Memory → TakesLine (E.taken err.old) (E.taken err.new)
-        (E.faults err.old) (E.faults err.new) (E.can_fail err.old)
-        (line_for result.0 (request_of (map string_bytes words.now))) }
-    ensures memory { result.0 ≡ Ended.Memory → TakesSomeFront (E.taken err.old) (E.taken err.new)
-        (request_of (map string_bytes words.now))
-        (CouldAnswer (RequestAnswers (request_of (map string_bytes words.now)) (F.store files) (O.taken out.old) (O.taken out.new))
-        (F.read_faults files) (F.read_faults result.1) (O.faults out.old) (O.faults out.new)) }
+    // Only a dump writes, and only its archive; no file of a class is written.
+    ensures leaves { Leaves (request_of (map string_bytes words.now)) (F.store files) (F.store result.1) }
+    ensures class_files { ClassFilesStay (contents_told (F.store files)) (contents_told (F.store result.1)) }
+
+    // Where memory ran out err took a front of the line of that, or of the answer that it took the place of.
+    ensures memory { result.0 ≡ Ended.Memory → TakesSomeFront (RequestAnswers (request_of (map string_bytes words.now)) (F.store files) (F.store result.1) (F.write_faults files, F.write_faults result.1) (O.taken out.old) (O.taken out.new))
+        (CountsFor (request_of (map string_bytes words.now)) (F.write_faults files) (F.write_faults result.1) (O.faults out.old) (O.faults out.new)) (steps_of (request_of (map string_bytes words.now)))
+        (E.taken err.old) (E.taken err.new) (F.read_faults files) (F.read_faults result.1) }
     ensures err_faults { CountsErr (E.faults err.old) (E.faults err.new) result.0 }
 
     // A fault is answered only where its count rose, and only where a call could fail.
     ensures read_fault { CountsReads (F.read_faults files) (F.read_faults result.1) result.0 }
-    ensures write_fault { CountsWrites (O.faults out.old) (O.faults out.new) result.0 }
-    ensures writes { F.write_faults result.1 ≡ F.write_faults files }
+    ensures write_fault { CountsFor (request_of (map string_bytes words.now)) (F.write_faults files) (F.write_faults result.1) (O.faults out.old) (O.faults out.new) result.0 }
     ensures read_can_fail { result.0 ≡ Ended.ReadFault → F.can_fail files }
-    ensures write_can_fail { result.0 ≡ Ended.WriteFault → O.can_fail out.old }
+    ensures write_can_fail { result.0 ≡ Ended.WriteFault → CanFailWrites (request_of (map string_bytes words.now)) (F.can_fail files) (O.can_fail out.old) }
 
     // Where no call can fail, none can afterwards.
     ensures files_stay { F.can_fail result.1 → F.can_fail files }
@@ -70,24 +82,90 @@ pub fn run_command<F: Files, O: Sink, E: Sink>(
     ensures err_stays { E.can_fail err.new → E.can_fail err.old }
 {
     let mut files = files;
+    let ended = do_words(alloc, words, &mut files, out, err);
+    (ended, files)
+}
+
+// Does what the words ask for, and puts the end's line.
+#[tactic(auto, using(crate::proofs::Tells::memory_told))]
+fn do_words<F: Files, O: Sink, E: Sink>(
+    alloc: Global,
+    words: &[String],
+    files: &mut F,
+    out: &mut O,
+    err: &mut E,
+) -> Ended
+    ensures answer { Answered (RequestAnswers (request_of (map string_bytes words.now)) (F.store files.old) (F.store files.new) (F.write_faults files.old, F.write_faults files.new) (O.taken out.old) (O.taken out.new)) (steps_of (request_of (map string_bytes words.now)))
+        (E.taken err.old) (E.taken err.new) (E.faults err.old) (E.faults err.new) (E.can_fail err.old) result }
+    ensures leaves { Leaves (request_of (map string_bytes words.now)) (F.store files.old) (F.store files.new) }
+    ensures memory { result ≡ Ended.Memory → TakesSomeFront (RequestAnswers (request_of (map string_bytes words.now)) (F.store files.old) (F.store files.new) (F.write_faults files.old, F.write_faults files.new) (O.taken out.old) (O.taken out.new))
+        (CountsFor (request_of (map string_bytes words.now)) (F.write_faults files.old) (F.write_faults files.new) (O.faults out.old) (O.faults out.new)) (steps_of (request_of (map string_bytes words.now)))
+        (E.taken err.old) (E.taken err.new) (F.read_faults files.old) (F.read_faults files.new) }
+    ensures err_faults { CountsErr (E.faults err.old) (E.faults err.new) result }
+    ensures read_fault { CountsReads (F.read_faults files.old) (F.read_faults files.new) result }
+    ensures write_fault { CountsFor (request_of (map string_bytes words.now)) (F.write_faults files.old) (F.write_faults files.new) (O.faults out.old) (O.faults out.new) result }
+    ensures read_can_fail { result ≡ Ended.ReadFault → F.can_fail files.old }
+    ensures write_can_fail { result ≡ Ended.WriteFault → CanFailWrites (request_of (map string_bytes words.now)) (F.can_fail files.old) (O.can_fail out.old) }
+    ensures files_stay { F.can_fail files.new → F.can_fail files.old }
+    ensures out_stays { O.can_fail out.new → O.can_fail out.old }
+    ensures err_stays { E.can_fail err.new → E.can_fail err.old }
+{
     match read_words(alloc, words) {
-        Err(_) => {
-            let ended = tell(alloc, Ended::Memory, "", 0, err);
-            (ended, files)
-        }
-        Ok(None) => {
-            let ended = tell(alloc, Ended::Usage, "", 0, err);
-            (ended, files)
-        }
-        Ok(Some(request)) => {
-            let ended = run_request(alloc, &request, &mut files, out, err);
-            (ended, files)
-        }
+        Ok(Some(command)) => do_command(alloc, &command, files, out, err),
+        Ok(None) => tell(alloc, Ended::Usage, b"", 0, err),
+        Err(_) => tell(alloc, Ended::Memory, b"", 0, err),
+    }
+}
+
+// Does what is asked for.
+fn do_command<F: Files, O: Sink, E: Sink>(
+    alloc: Global,
+    command: &Command,
+    files: &mut F,
+    out: &mut O,
+    err: &mut E,
+) -> Ended
+    ensures answer { Answered (RequestAnswers (Some (command_view command.now)) (F.store files.old) (F.store files.new) (F.write_faults files.old, F.write_faults files.new) (O.taken out.old) (O.taken out.new)) (steps_of (Some (command_view command.now)))
+        (E.taken err.old) (E.taken err.new) (E.faults err.old) (E.faults err.new) (E.can_fail err.old) result }
+    ensures leaves { Leaves (Some (command_view command.now)) (F.store files.old) (F.store files.new) }
+    ensures memory { result ≡ Ended.Memory → TakesSomeFront (RequestAnswers (Some (command_view command.now)) (F.store files.old) (F.store files.new) (F.write_faults files.old, F.write_faults files.new) (O.taken out.old) (O.taken out.new))
+        (CountsFor (Some (command_view command.now)) (F.write_faults files.old) (F.write_faults files.new) (O.faults out.old) (O.faults out.new)) (steps_of (Some (command_view command.now)))
+        (E.taken err.old) (E.taken err.new) (F.read_faults files.old) (F.read_faults files.new) }
+    ensures err_faults { CountsErr (E.faults err.old) (E.faults err.new) result }
+    ensures read_fault { CountsReads (F.read_faults files.old) (F.read_faults files.new) result }
+    ensures write_fault { CountsFor (Some (command_view command.now)) (F.write_faults files.old) (F.write_faults files.new) (O.faults out.old) (O.faults out.new) result }
+    ensures read_can_fail { result ≡ Ended.ReadFault → F.can_fail files.old }
+    ensures write_can_fail { result ≡ Ended.WriteFault → CanFailWrites (Some (command_view command.now)) (F.can_fail files.old) (O.can_fail out.old) }
+    ensures files_stay { F.can_fail files.new → F.can_fail files.old }
+    ensures out_stays { O.can_fail out.new → O.can_fail out.old }
+    ensures err_stays { E.can_fail err.new → E.can_fail err.old }
+{
+    match command {
+        Command::Run(request) => run_request(alloc, request, files, out, err),
+        Command::Dump(request) => dump_request(alloc, request, files, out, err),
+    }
+}
+
+fn archive_or_name(request: &RunWords) -> &[u8]
+    ensures { result.now ≡ archive_or (run_view request.now).archive (run_view request.now).name }
+{
+    match &request.archive {
+        Some(archive) => archive.as_bytes(),
+        None => request.name.as_bytes(),
+    }
+}
+
+// What the line of a run's end tells.
+fn run_subject(request: &RunWords, ended: Ended) -> &[u8]
+    ensures { result.now ≡ run_subject (run_view request.now) ended }
+{
+    match ended {
+        Ended::NotShared(_) => archive_or_name(request),
+        _ => request.name.as_bytes(),
     }
 }
 
 // Runs the class that is asked for, and puts the end's line.
-#[tactic(auto, using(crate::proofs::Tells::could_front, crate::proofs::Ends::reads_memory, crate::proofs::Ends::counts_reads_memory, crate::proofs::Ends::counts_writes_memory))]
 fn run_request<F: Files, O: Sink, E: Sink>(
     alloc: Global,
     request: &RunWords,
@@ -95,37 +173,34 @@ fn run_request<F: Files, O: Sink, E: Sink>(
     out: &mut O,
     err: &mut E,
 ) -> Ended
-    ensures answer { PathAnswers (F.store files.old) (path_of (request_view request.now)) request.now.steps (O.taken out.old) (O.taken out.new) result }
-    ensures reads { ReadsPath (F.store files.old) (F.store files.new) (path_of (request_view request.now)) result }
-    ensures contents { contents_told (F.store files.new) ≡ contents_told (F.store files.old) }
-    ensures line { result ≢ Ended.Memory → TakesLine (E.taken err.old) (E.taken err.new)
-        (E.faults err.old) (E.faults err.new) (E.can_fail err.old) (line_for result (Some (request_view request.now))) }
-    ensures memory { result ≡ Ended.Memory → TakesSomeFront (E.taken err.old) (E.taken err.new) (Some (request_view request.now))
-        (CouldAnswer (PathAnswers (F.store files.old) (path_of (request_view request.now)) request.now.steps (O.taken out.old) (O.taken out.new))
-        (F.read_faults files.old) (F.read_faults files.new) (O.faults out.old) (O.faults out.new)) }
+    ensures answer { Answered (RequestAnswers (Some (Run (run_view request.now))) (F.store files.old) (F.store files.new) (F.write_faults files.old, F.write_faults files.new) (O.taken out.old) (O.taken out.new)) (steps_of (Some (Run (run_view request.now))))
+        (E.taken err.old) (E.taken err.new) (E.faults err.old) (E.faults err.new) (E.can_fail err.old) result }
+    ensures leaves { Leaves (Some (Run (run_view request.now))) (F.store files.old) (F.store files.new) }
+    ensures memory { result ≡ Ended.Memory → TakesSomeFront (RequestAnswers (Some (Run (run_view request.now))) (F.store files.old) (F.store files.new) (F.write_faults files.old, F.write_faults files.new) (O.taken out.old) (O.taken out.new))
+        (CountsFor (Some (Run (run_view request.now))) (F.write_faults files.old) (F.write_faults files.new) (O.faults out.old) (O.faults out.new)) (steps_of (Some (Run (run_view request.now))))
+        (E.taken err.old) (E.taken err.new) (F.read_faults files.old) (F.read_faults files.new) }
     ensures err_faults { CountsErr (E.faults err.old) (E.faults err.new) result }
     ensures read_fault { CountsReads (F.read_faults files.old) (F.read_faults files.new) result }
-    ensures write_fault { CountsWrites (O.faults out.old) (O.faults out.new) result }
-    ensures writes { F.write_faults files.new ≡ F.write_faults files.old }
+    ensures write_fault { CountsFor (Some (Run (run_view request.now))) (F.write_faults files.old) (F.write_faults files.new) (O.faults out.old) (O.faults out.new) result }
     ensures read_can_fail { result ≡ Ended.ReadFault → F.can_fail files.old }
-    ensures write_can_fail { result ≡ Ended.WriteFault → O.can_fail out.old }
+    ensures write_can_fail { result ≡ Ended.WriteFault → CanFailWrites (Some (Run (run_view request.now))) (F.can_fail files.old) (O.can_fail out.old) }
     ensures files_stay { F.can_fail files.new → F.can_fail files.old }
     ensures out_stays { O.can_fail out.new → O.can_fail out.old }
     ensures err_stays { E.can_fail err.new → E.can_fail err.old }
 {
-    let ended = run_path(alloc, request, files, out);
-    tell(alloc, ended, request.name.as_str(), request.steps, err)
+    let ended = run_class(alloc, request, files, out);
+    let subject = run_subject(request, ended);
+    tell(alloc, ended, subject, request.steps, err)
 }
 
 // The same without the line.
-fn run_path<F: Files, O: Sink>(
+fn run_class<F: Files, O: Sink>(
     alloc: Global,
     request: &RunWords,
     files: &mut F,
     out: &mut O,
 ) -> Ended
-    ensures answer { PathAnswers (F.store files.old) (path_of (request_view request.now)) request.now.steps (O.taken out.old) (O.taken out.new) result }
-    ensures reads { ReadsPath (F.store files.old) (F.store files.new) (path_of (request_view request.now)) result }
+    ensures answer { RunAnswers (F.store files.old) (F.store files.new) (run_view request.now) (O.taken out.old) (O.taken out.new) result }
     ensures contents { contents_told (F.store files.new) ≡ contents_told (F.store files.old) }
     ensures read_fault { CountsReads (F.read_faults files.old) (F.read_faults files.new) result }
     ensures write_fault { CountsWrites (O.faults out.old) (O.faults out.new) result }
@@ -135,8 +210,65 @@ fn run_path<F: Files, O: Sink>(
     ensures files_stay { F.can_fail files.new → F.can_fail files.old }
     ensures out_stays { O.can_fail out.new → O.can_fail out.old }
 {
-    match class_path(request) {
-        Ok(path) => run_file(alloc, path.as_str(), request.steps, files, out),
-        Err(_) => Ended::Memory,
+    match &request.archive {
+        Some(archive) => run_archived(alloc, request, archive.as_str(), files, out),
+        None => run_path(alloc, request, files, out),
     }
+}
+
+// Dumps the classes that are listed, and puts the end's line.
+fn dump_request<F: Files, O: Sink, E: Sink>(
+    alloc: Global,
+    request: &DumpWords,
+    files: &mut F,
+    out: &mut O,
+    err: &mut E,
+) -> Ended
+    ensures answer { Answered (RequestAnswers (Some (Dump (dump_view request.now))) (F.store files.old) (F.store files.new) (F.write_faults files.old, F.write_faults files.new) (O.taken out.old) (O.taken out.new)) (steps_of (Some (Dump (dump_view request.now))))
+        (E.taken err.old) (E.taken err.new) (E.faults err.old) (E.faults err.new) (E.can_fail err.old) result }
+    ensures leaves { Leaves (Some (Dump (dump_view request.now))) (F.store files.old) (F.store files.new) }
+    ensures memory { result ≡ Ended.Memory → TakesSomeFront (RequestAnswers (Some (Dump (dump_view request.now))) (F.store files.old) (F.store files.new) (F.write_faults files.old, F.write_faults files.new) (O.taken out.old) (O.taken out.new))
+        (CountsFor (Some (Dump (dump_view request.now))) (F.write_faults files.old) (F.write_faults files.new) (O.faults out.old) (O.faults out.new)) (steps_of (Some (Dump (dump_view request.now))))
+        (E.taken err.old) (E.taken err.new) (F.read_faults files.old) (F.read_faults files.new) }
+    ensures err_faults { CountsErr (E.faults err.old) (E.faults err.new) result }
+    ensures read_fault { CountsReads (F.read_faults files.old) (F.read_faults files.new) result }
+    ensures write_fault { CountsFor (Some (Dump (dump_view request.now))) (F.write_faults files.old) (F.write_faults files.new) (O.faults out.old) (O.faults out.new) result }
+    ensures read_can_fail { result ≡ Ended.ReadFault → F.can_fail files.old }
+    ensures write_can_fail { result ≡ Ended.WriteFault → CanFailWrites (Some (Dump (dump_view request.now))) (F.can_fail files.old) (O.can_fail out.old) }
+    ensures files_stay { F.can_fail files.new → F.can_fail files.old }
+    ensures out_stays { O.can_fail out.new → O.can_fail out.old }
+    ensures err_stays { E.can_fail err.new → E.can_fail err.old }
+{
+    match read_names(alloc, request, files) {
+        Ok(names) => dump_listed(alloc, request, names.as_slice(), files, out, err),
+        Err(ended) => tell(alloc, ended, request.list.as_bytes(), 0, err),
+    }
+}
+
+// The same for the names of the list.
+fn dump_listed<F: Files, O: Sink, E: Sink>(
+    alloc: Global,
+    request: &DumpWords,
+    names: &[Vec<u8>],
+    files: &mut F,
+    out: &mut O,
+    err: &mut E,
+) -> Ended
+    ensures answer { (l : Listed (contents_told (F.store files.old)) (dump_view request.now)) → class_list l.bytes ≡ texts_of names.now → Answered (RequestAnswers (Some (Dump (dump_view request.now))) (F.store files.old) (F.store files.new) (F.write_faults files.old, F.write_faults files.new) (O.taken out.old) (O.taken out.new)) (steps_of (Some (Dump (dump_view request.now))))
+        (E.taken err.old) (E.taken err.new) (E.faults err.old) (E.faults err.new) (E.can_fail err.old) result }
+    ensures leaves { (l : Listed (contents_told (F.store files.old)) (dump_view request.now)) → class_list l.bytes ≡ texts_of names.now → Leaves (Some (Dump (dump_view request.now))) (F.store files.old) (F.store files.new) }
+    ensures memory { (l : Listed (contents_told (F.store files.old)) (dump_view request.now)) → class_list l.bytes ≡ texts_of names.now → result ≡ Ended.Memory → TakesSomeFront (RequestAnswers (Some (Dump (dump_view request.now))) (F.store files.old) (F.store files.new) (F.write_faults files.old, F.write_faults files.new) (O.taken out.old) (O.taken out.new))
+        (CountsFor (Some (Dump (dump_view request.now))) (F.write_faults files.old) (F.write_faults files.new) (O.faults out.old) (O.faults out.new)) (steps_of (Some (Dump (dump_view request.now))))
+        (E.taken err.old) (E.taken err.new) (F.read_faults files.old) (F.read_faults files.new) }
+    ensures err_faults { CountsErr (E.faults err.old) (E.faults err.new) result }
+    ensures read_fault { CountsReads (F.read_faults files.old) (F.read_faults files.new) result }
+    ensures write_fault { CountsFor (Some (Dump (dump_view request.now))) (F.write_faults files.old) (F.write_faults files.new) (O.faults out.old) (O.faults out.new) result }
+    ensures read_can_fail { result ≡ Ended.ReadFault → F.can_fail files.old }
+    ensures write_can_fail { result ≡ Ended.WriteFault → CanFailWrites (Some (Dump (dump_view request.now))) (F.can_fail files.old) (O.can_fail out.old) }
+    ensures files_stay { F.can_fail files.new → F.can_fail files.old }
+    ensures out_stays { O.can_fail out.new → O.can_fail out.old }
+    ensures err_stays { E.can_fail err.new → E.can_fail err.old }
+{
+    let end = dump_names(alloc, request, names, files, out);
+    tell(alloc, end.ended, subject_at(names, end.place), 0, err)
 }

@@ -2,24 +2,30 @@
 ghost use Rattle.std.specs.Prelude.{◌≡◌};
 ghost use Rattle.jsa.specs.Ended.{status_of};
 
+use archive_header::Refuse;
 use jsa_base::Quantity;
 
 /// How a command ended.
 #[derive(Clone, Copy, Debug, PartialEq, Eq)]
 pub enum Ended {
-    /// The run ended, with this status.
+    /// The run ended, with this status. A dump that was written ends with 0.
     Exit(u8),
     /// The words are outside the grammar of commands.
     Usage,
-    /// The folder has no file of the main class.
+    /// No mapped archive holds the main class, and the folder has no file of it.
     NoMain,
+    /// The class list isn't there.
+    Missing,
+    /// The archive was to be used and is refused, for this reason, which is never `Memory`.
+    NotShared(Refuse),
     /// As many turns were made as the limit, and the run hasn't ended.
     Stopped,
-    /// The file of the main class isn't a class of the first form.
+    /// The main class isn't a class of the first form, or a listed class has no file, or one that isn't a class of the
+    /// first form or has another name inside.
     Unsupported,
     /// A file could not be read.
     ReadFault,
-    /// The program's output could not be written.
+    /// The program's output or the archive could not be written.
     WriteFault,
     /// The quantity is the first that passes its limit, which is the number.
     Limit(Quantity, u64),
@@ -35,6 +41,8 @@ pub fn status(ended: Ended) -> u8
         Ended::Exit(code) => code,
         Ended::Usage => 2,
         Ended::NoMain => 4,
+        Ended::Missing => 5,
+        Ended::NotShared(_) => 6,
         Ended::Stopped => 8,
         Ended::Unsupported => 9,
         Ended::ReadFault => 11,

@@ -1,11 +1,13 @@
 //! The line that an end puts to `err`.
-ghost use Rattle.std.specs.Prelude.{◌≡◌, ◌≢◌, ◌≤◌, ℕ, [], IfOk, OnOk};
+ghost use Rattle.std.specs.Prelude.{◌≡◌, ◌≢◌, ◌≤◌, ◌++◌, ℕ, [], codes, IfOk, OnOk};
+ghost use Rattle.std.specs.Fmt.{decimal};
 ghost use Rattle.std.specs.String.{string_bytes};
 ghost use Rattle.jsa_files.specs.Sinks.{GrowsByFront};
-ghost use Rattle.jsa.specs.Command.{IsOrMemory};
-ghost use Rattle.jsa.specs.Lines.{quantity_name, line_of, TakesLine, TakesFront, CountsErr};
+ghost use Rattle.jsa.specs.Completes.{IsOrMemory};
+ghost use Rattle.jsa.specs.Lines.{quantity_name, cause_name, cause_end, line_of, TakesLine, TakesFront, CountsErr};
 
 use crate::ended::Ended;
+use archive_header::Refuse;
 use jsa_base::Quantity;
 use jsa_files::{Sink, SinkFault};
 use std::alloc::{AllocError, Global};
@@ -15,26 +17,84 @@ fn quantity_name(quantity: Quantity) -> &'static str
 {
     match quantity {
         Quantity::FileSize => "FileSize",
+        Quantity::Names => "Names",
+        Quantity::Classes => "Classes",
+        Quantity::ArchiveSize => "ArchiveSize",
     }
 }
 
-// The text of the line, which is empty for an exit.
+// Why an archive was refused.
+fn cause_name(alloc: Global, refuse: Refuse) -> Result<String, AllocError>
+    ensures { IfOk result (λ cause. string_bytes cause ≡ cause_name refuse) }
+{
+    match refuse {
+        Refuse::Short => String::from_str(alloc, "short"),
+        Refuse::Magic => String::from_str(alloc, "magic"),
+        Refuse::Version(format) => format!(in alloc; "version {format}"),
+        Refuse::Digest { .. } => String::from_str(alloc, "digest"),
+        Refuse::Layer { .. } => String::from_str(alloc, "layer"),
+        Refuse::Malformed => String::from_str(alloc, "malformed"),
+        Refuse::Path(folder) => format!(in alloc; "path {folder}"),
+        Refuse::Base { .. } => String::from_str(alloc, "base"),
+        Refuse::Memory => String::from_str(alloc, "memory"),
+    }
+}
+
+fn cause_end(alloc: Global, refuse: Refuse) -> Result<String, AllocError>
+    ensures { IfOk result (λ end. string_bytes end ≡ cause_end refuse) }
+{
+    let cause = cause_name(alloc, refuse)?;
+    format!(in alloc; ": {}\n", cause.as_str())
+}
+
+// What a line tells, between what stands before and behind it.
+fn around(alloc: Global, front: &str, subject: &[u8], end: &str) -> Result<Vec<u8>, AllocError>
+    ensures { IfOk result (λ line. line.items ≡ front.now ++ (subject.now ++ end.now)) }
+{
+    let mut line = Vec::from_slice(alloc, front.as_bytes())?;
+    line.extend_from_slice(subject)?;
+    line.extend_from_slice(end.as_bytes())?;
+    Ok(line)
+}
+
+fn refused_line(alloc: Global, subject: &[u8], refuse: Refuse) -> Result<Vec<u8>, AllocError>
+    ensures { IfOk result (λ line. line.items ≡ codes "not shared " ++ (subject.now ++ cause_end refuse)) }
+{
+    let end = cause_end(alloc, refuse)?;
+    around(alloc, "not shared ", subject, end.as_str())
+}
+
+fn stopped_line(alloc: Global, steps: u64) -> Result<Vec<u8>, AllocError>
+    ensures { IfOk result (λ line. line.items ≡ codes "stopped after " ++ decimal steps ++ codes " steps\n") }
+{
+    let line = format!(in alloc; "stopped after {steps} steps\n")?;
+    Vec::from_slice(alloc, line.as_bytes())
+}
+
+fn limit_line(alloc: Global, quantity: Quantity, limit: u64) -> Result<Vec<u8>, AllocError>
+    ensures { IfOk result (λ line. line.items ≡ codes "limit " ++ quantity_name quantity ++ codes " " ++ decimal limit ++ codes "\n") }
+{
+    let line = format!(in alloc; "limit {} {limit}\n", quantity_name(quantity))?;
+    Vec::from_slice(alloc, line.as_bytes())
+}
+
+// The bytes of the line, of which an exit has none.
 #[tactic(auto, unfolding(crate::specs::Lines::line_of))]
-fn line(alloc: Global, ended: Ended, name: &str, steps: u64) -> Result<String, AllocError>
-    ensures { IfOk result (λ line. string_bytes line ≡ line_of ended name.now steps) }
+fn line(alloc: Global, ended: Ended, subject: &[u8], steps: u64) -> Result<Vec<u8>, AllocError>
+    ensures { IfOk result (λ line. line.items ≡ line_of ended subject.now steps) }
 {
     match ended {
-        Ended::Exit(_) => Ok(String::new(alloc)),
-        Ended::Usage => String::from_str(alloc, "usage\n"),
-        Ended::NoMain => format!(in alloc; "no main in {name}\n"),
-        Ended::Stopped => format!(in alloc; "stopped after {steps} steps\n"),
-        Ended::Unsupported => format!(in alloc; "unsupported {name}\n"),
-        Ended::ReadFault => String::from_str(alloc, "read fault\n"),
-        Ended::WriteFault => String::from_str(alloc, "write fault\n"),
-        Ended::Limit(quantity, limit) => {
-            format!(in alloc; "limit {} {limit}\n", quantity_name(quantity))
-        }
-        Ended::Memory => String::from_str(alloc, "out of memory\n"),
+        Ended::Exit(_) => Ok(Vec::new(alloc)),
+        Ended::Usage => Vec::from_slice(alloc, b"usage\n"),
+        Ended::NoMain => around(alloc, "no main in ", subject, "\n"),
+        Ended::Missing => around(alloc, "missing ", subject, "\n"),
+        Ended::NotShared(refuse) => refused_line(alloc, subject, refuse),
+        Ended::Stopped => stopped_line(alloc, steps),
+        Ended::Unsupported => around(alloc, "unsupported ", subject, "\n"),
+        Ended::ReadFault => Vec::from_slice(alloc, b"read fault\n"),
+        Ended::WriteFault => Vec::from_slice(alloc, b"write fault\n"),
+        Ended::Limit(quantity, limit) => limit_line(alloc, quantity, limit),
+        Ended::Memory => Vec::from_slice(alloc, b"out of memory\n"),
     }
 }
 
@@ -65,41 +125,41 @@ fn tell_memory<E: Sink>(alloc: Global, err: &mut E) -> Ended
     Ended::Memory
 }
 
-/// Puts the line of the end to `err`, and answers the end. Some lines hold the internal name of the main class, one the
-/// limit of turns, and an exit has none. A put that fails changes no answer. The answer is `Memory` where the end is, and
+/// Puts the line of the end to `err`, and answers the end. Some lines tell the subject, a name or a path, one the limit of
+/// turns, and an exit has none. A put that fails changes no answer. The answer is `Memory` where the end is, and
 /// where memory runs out in making the line or in putting it; unless it was a put that ran out, the line of `Memory` is
 /// put then.
 #[tactic(auto, unfolding(crate::specs::Lines::line_of))]
-pub fn tell<E: Sink>(alloc: Global, ended: Ended, name: &str, steps: u64, err: &mut E) -> Ended
+pub fn tell<E: Sink>(alloc: Global, ended: Ended, subject: &[u8], steps: u64, err: &mut E) -> Ended
     ensures same { IsOrMemory result ended }
     ensures line { result ≢ Ended.Memory → TakesLine (E.taken err.old) (E.taken err.new)
-        (E.faults err.old) (E.faults err.new) (E.can_fail err.old) (line_of ended name.now steps) }
-    ensures memory { result ≡ Ended.Memory → TakesFront (E.taken err.old) (E.taken err.new) ended name.now steps }
+        (E.faults err.old) (E.faults err.new) (E.can_fail err.old) (line_of ended subject.now steps) }
+    ensures memory { result ≡ Ended.Memory → TakesFront (E.taken err.old) (E.taken err.new) ended subject.now steps }
     ensures faults { CountsErr (E.faults err.old) (E.faults err.new) result }
     ensures stays { E.can_fail err.new → E.can_fail err.old }
 {
     match ended {
         Ended::Exit(_) => ended,
         Ended::Memory => tell_memory(alloc, err),
-        _ => tell_line(alloc, ended, name, steps, err),
+        _ => tell_line(alloc, ended, subject, steps, err),
     }
 }
 
 // The same for an end that is neither an exit nor `Memory`. Its line may take memory.
 #[tactic(auto, using(crate::proofs::Tells::memory_front, crate::proofs::Tells::counts_err))]
-fn tell_line<E: Sink>(alloc: Global, ended: Ended, name: &str, steps: u64, err: &mut E) -> Ended
+fn tell_line<E: Sink>(alloc: Global, ended: Ended, subject: &[u8], steps: u64, err: &mut E) -> Ended
     requires { (code : ℕ) → ended ≢ Ended.Exit code }
     ensures same { IsOrMemory result ended }
     ensures line { result ≢ Ended.Memory → TakesLine (E.taken err.old) (E.taken err.new)
-        (E.faults err.old) (E.faults err.new) (E.can_fail err.old) (line_of ended name.now steps) }
-    ensures memory { result ≡ Ended.Memory → TakesFront (E.taken err.old) (E.taken err.new) ended name.now steps }
+        (E.faults err.old) (E.faults err.new) (E.can_fail err.old) (line_of ended subject.now steps) }
+    ensures memory { result ≡ Ended.Memory → TakesFront (E.taken err.old) (E.taken err.new) ended subject.now steps }
     ensures faults { CountsErr (E.faults err.old) (E.faults err.new) result }
     ensures stays { E.can_fail err.new → E.can_fail err.old }
 {
-    let Ok(line) = line(alloc, ended, name, steps) else {
+    let Ok(line) = line(alloc, ended, subject, steps) else {
         return tell_memory(alloc, err);
     };
-    match put_line(alloc, line.as_bytes(), err) {
+    match put_line(alloc, line.as_slice(), err) {
         Ok(()) => ended,
         Err(_) => Ended::Memory,
     }
@@ -109,9 +169,20 @@ fn tell_line<E: Sink>(alloc: Global, ended: Ended, name: &str, steps: u64, err: 
 mod tests {
     use super::tell;
     use crate::ended::Ended;
+    use archive_header::Refuse;
     use jsa_base::Quantity;
     use jsa_files::MemorySink;
     use std::test::Fail;
+
+    const DIGEST: Refuse = Refuse::Digest {
+        kept: [1; 32],
+        found: [2; 32],
+    };
+
+    const LAYER: Refuse = Refuse::Layer {
+        kept: [1; 32],
+        found: [0; 32],
+    };
 
     #[test]
     fn each_end_has_its_line_and_keeps_it_where_that_fails(rt: HostRuntime) -> Result<(), Fail> {
@@ -123,6 +194,33 @@ mod tests {
             (Ended::Unsupported, "unsupported a/B\n"),
             (Ended::ReadFault, "read fault\n"),
             (Ended::WriteFault, "write fault\n"),
+            (Ended::Missing, "missing a/B\n"),
+            (Ended::NotShared(Refuse::Short), "not shared a/B: short\n"),
+            (Ended::NotShared(Refuse::Magic), "not shared a/B: magic\n"),
+            (
+                Ended::NotShared(Refuse::Version(7)),
+                "not shared a/B: version 7\n",
+            ),
+            (Ended::NotShared(DIGEST), "not shared a/B: digest\n"),
+            (Ended::NotShared(LAYER), "not shared a/B: layer\n"),
+            (
+                Ended::NotShared(Refuse::Malformed),
+                "not shared a/B: malformed\n",
+            ),
+            (
+                Ended::NotShared(Refuse::Path(2)),
+                "not shared a/B: path 2\n",
+            ),
+            (
+                Ended::NotShared(Refuse::Base { base: 1, span: 2 }),
+                "not shared a/B: base\n",
+            ),
+            (Ended::Limit(Quantity::Names, 1), "limit Names 1\n"),
+            (Ended::Limit(Quantity::Classes, 2), "limit Classes 2\n"),
+            (
+                Ended::Limit(Quantity::ArchiveSize, 3),
+                "limit ArchiveSize 3\n",
+            ),
             (
                 Ended::Limit(Quantity::FileSize, 67_108_864),
                 "limit FileSize 67108864\n",
@@ -130,11 +228,11 @@ mod tests {
             (Ended::Memory, "out of memory\n"),
         ] {
             let mut err = MemorySink::new(rt.alloc());
-            assert_eq!(rt; tell(rt.alloc(), ended, "a/B", 9, &mut err), ended);
+            assert_eq!(rt; tell(rt.alloc(), ended, b"a/B", 9, &mut err), ended);
             assert_eq!(rt; err.bytes(), line.as_bytes());
             let mut failing = MemorySink::new(rt.alloc());
             failing.fail(1, 3)?;
-            assert_eq!(rt; tell(rt.alloc(), ended, "a/B", 9, &mut failing), ended);
+            assert_eq!(rt; tell(rt.alloc(), ended, b"a/B", 9, &mut failing), ended);
             assert_eq!(rt; failing.bytes(), &line.as_bytes()[..line.len().min(3)]);
         }
         Ok(())

@@ -1,9 +1,17 @@
-//! Runs one class from its file.
+//! Runs one class from its file or from an archive, and dumps classes into an archive.
 #![tactic(auto)]
 
+mod archive_run;
+#[cfg(test)]
+mod archive_tests;
+mod class_list;
 mod command;
+mod dump;
 mod ended;
+mod faults;
 mod file_run;
+mod folder;
+mod gathering;
 mod lines;
 #[cfg(test)]
 mod test_classes;
@@ -40,7 +48,7 @@ fn main(rt: HostRuntime) -> ExitCode {
     let mut out = StdSink::new(rt.stdout());
     let mut err = StdSink::new(rt.stderr());
     let Ok(words) = words_of(&rt) else {
-        let ended = tell(alloc, Ended::Memory, "", 0, &mut err);
+        let ended = tell(alloc, Ended::Memory, b"", 0, &mut err);
         return ExitCode::from(status(ended));
     };
     let (ended, _files) = run_command(alloc, &words, DiskFiles::new(rt), &mut out, &mut err);

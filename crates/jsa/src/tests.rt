@@ -41,7 +41,7 @@ fn run_main(alloc: Global, class: &[u8]) -> Result<Done, Fail> {
 }
 
 // `main` puts 40 + 2 by bipush, iconst_2, iadd and invokestatic.
-const PUTS_A_SUM: [u8; 160] = [
+pub(crate) const PUTS_A_SUM: [u8; 160] = [
     202, 254, 186, 190, 0, 0, 0, 52, 0, 12, 1, 0, 4, 77, 97, 105, 110, 7, 0, 1, 1, 0, 16, 106, 97,
     118, 97, 47, 108, 97, 110, 103, 47, 79, 98, 106, 101, 99, 116, 7, 0, 3, 1, 0, 4, 109, 97, 105,
     110, 1, 0, 22, 40, 91, 76, 106, 97, 118, 97, 47, 108, 97, 110, 103, 47, 83, 116, 114, 105, 110,
@@ -52,7 +52,7 @@ const PUTS_A_SUM: [u8; 160] = [
 ];
 
 // `main` divides 0 by 1.
-const DIVIDES: [u8; 157] = [
+pub(crate) const DIVIDES: [u8; 157] = [
     202, 254, 186, 190, 0, 0, 0, 52, 0, 12, 1, 0, 4, 77, 97, 105, 110, 7, 0, 1, 1, 0, 16, 106, 97,
     118, 97, 47, 108, 97, 110, 103, 47, 79, 98, 106, 101, 99, 116, 7, 0, 3, 1, 0, 4, 109, 97, 105,
     110, 1, 0, 22, 40, 91, 76, 106, 97, 118, 97, 47, 108, 97, 110, 103, 47, 83, 116, 114, 105, 110,
@@ -63,7 +63,7 @@ const DIVIDES: [u8; 157] = [
 ];
 
 // `main` shifts -1 to the right by 1, with zeros, and puts that.
-const SHIFTS: [u8; 159] = [
+pub(crate) const SHIFTS: [u8; 159] = [
     202, 254, 186, 190, 0, 0, 0, 52, 0, 12, 1, 0, 4, 77, 97, 105, 110, 7, 0, 1, 1, 0, 16, 106, 97,
     118, 97, 47, 108, 97, 110, 103, 47, 79, 98, 106, 101, 99, 116, 7, 0, 3, 1, 0, 4, 109, 97, 105,
     110, 1, 0, 22, 40, 91, 76, 106, 97, 118, 97, 47, 108, 97, 110, 103, 47, 83, 116, 114, 105, 110,
@@ -183,7 +183,6 @@ Main
 app Main
 -cp app Main Main
 -cp app Main --steps=9
---steps=9 -cp app Main
 -cp --steps=9 app Main
 -cp app --steps=9
 -cp app --steps=9 Main Main
@@ -212,7 +211,22 @@ app Main
 -cp app --steps=0x00000000000000009 Main
 -cp app -cp app Main
 -classpath app Main
--Xshare:on -cp app Main
+-Xshare:maybe -cp app Main
+-Xshare:auto -Xshare:on -cp app Main
+-Xshare:on -cp app Main -XX:SharedArchiveFile=a
+-XX:SharedArchiveFile= -cp app Main
+-XX:SharedArchiveFile=a:b -cp app Main
+-XX:SharedArchiveFile=a.class -cp app Main
+-XX:SharedArchiveFile=a -XX:SharedArchiveFile=a -cp app Main
+-XX:SharedArchiveFile=a -Xshare:on Main
+-XX:SharedClassListFile=l -cp app Main
+-Xshare:dump -XX:SharedArchiveFile=a -cp app
+-Xshare:dump -XX:SharedClassListFile=l -cp app
+-Xshare:dump -XX:SharedClassListFile=l -XX:SharedArchiveFile=a
+-Xshare:dump -XX:SharedClassListFile=l -XX:SharedArchiveFile=a -cp app Main
+-Xshare:dump -XX:SharedClassListFile=l.class -XX:SharedArchiveFile=a -cp app
+-Xshare:dump -XX:SharedClassListFile=l -XX:SharedArchiveFile=app/Main.class -cp app
+-Xshare:dump -XX:SharedClassListFile=l -XX:SharedArchiveFile=a --steps=9 -cp app
 -cp * Main
 -cp a:b Main
 -cp app: Main

@@ -1,28 +1,79 @@
 //! Reads the words of a command.
-ghost use Rattle.std.specs.Prelude.{◌≡◌, ◌≤◌, ◌==◌, ◌++◌, cond, length, codes, IfOk, OnOk, true, map};
+ghost use Rattle.std.specs.Prelude.{◌≡◌, ◌≤◌, ◌<◌, ◌==◌, ◌++◌, cond, length, codes, IfOk, OnOk, IfSome, MatchOption, true, map};
 ghost use Rattle.std.specs.Char.{is_digit};
 ghost use Rattle.std.specs.List.{list_all, join_with_byte};
 ghost use Rattle.std.specs.Option.{option_copied, option_map};
 ghost use Rattle.std.specs.Str.{byte};
 ghost use Rattle.std.specs.String.{string_bytes};
-ghost use Rattle.jsa.specs.Words.{is_numeral, numeral, behind, number_of, steps_option, run_of, request_with, ends_in, has_no_colon, is_folder, is_word_byte, is_segment, segments_of, internal_name, request_of, path_of};
-ghost use Rattle.jsa.specs.Requests.{request_view};
+ghost use Rattle.jsa.specs.Words.{is_numeral, numeral, behind, number_of, steps_option, archive_path, archive_option, list_option, sharing_option, folder_option, once, with_folder, with_archive, with_list, with_steps, with_sharing, with_word, with_words, options_from, nothing, is_on, is_dump, run_with, dump_with, request_with, ends_in, has_no_colon, is_folder, is_archive_path, is_word_byte, is_segment, segments_of, internal_name, request_of, path_of, Run, Dump};
+ghost use Rattle.jsa.specs.Requests.{command_view, run_view, dump_view, is_on_share, taken_view, left_view};
 
 use std::alloc::{AllocError, Global};
+
+/// Whether a run has to use its archive.
+#[derive(Debug, Clone, Copy, PartialEq, Eq)]
+pub enum Share {
+    /// It runs without an archive that is refused.
+    Auto,
+    /// It ends where the archive is refused.
+    On,
+}
 
 /// What a run is asked for.
 #[derive(Debug, Drop)]
 pub struct RunWords {
     /// The folder of the class files, as it was given.
     pub folder: String,
-    /// The internal name of the main class, with a slash between its segments (JVMS 4.2.1).
-    pub name: String,
+    /// Whether the archive has to be used.
+    pub share: Share,
+    /// The path of the archive, where one is given.
+    pub archive: Option<String>,
     /// How many turns the run makes at most.
     pub steps: u64,
+    /// The internal name of the main class, with a slash between its segments (JVMS 4.2.1).
+    pub name: String,
+}
+
+/// What a dump is asked for.
+#[derive(Debug, Drop)]
+pub struct DumpWords {
+    /// The folder of the class files, as it was given.
+    pub folder: String,
+    /// The path of the archive that is written.
+    pub archive: String,
+    /// The path of the class list.
+    pub list: String,
+}
+
+/// What the words ask for.
+#[derive(Debug, Drop)]
+pub enum Command {
+    /// A main class is run.
+    Run(RunWords),
+    /// An archive is dumped.
+    Dump(DumpWords),
 }
 
 /// How many turns a run makes at most where the words don't say it.
 pub const STEPS: u64 = 1_000_000_000;
+
+// What -Xshare says.
+#[derive(Clone, Copy)]
+enum Sharing {
+    Auto,
+    On,
+    Dump,
+}
+
+// What the options so far ask for.
+#[derive(Clone, Copy)]
+struct Taken<'a> {
+    folder: Option<&'a str>,
+    archive: Option<&'a str>,
+    list: Option<&'a str>,
+    steps: Option<u64>,
+    sharing: Option<Sharing>,
+}
 
 fn ends_in(end: &[u8], bytes: &[u8]) -> bool
     ensures { result ≡ ends_in end.now bytes.now }
@@ -44,6 +95,12 @@ fn is_folder(word: &str) -> bool
         && has_no_colon(word.as_bytes())
         && !ends_in(b".jar", word.as_bytes())
         && !ends_in(b".zip", word.as_bytes())
+}
+
+fn is_archive_path(path: &str) -> bool
+    ensures { result ≡ is_archive_path path.now }
+{
+    !path.is_empty() && has_no_colon(path.as_bytes()) && !ends_in(b".class", path.as_bytes())
 }
 
 #[tactic(auto, unfolding(crate::specs::Words::is_word_byte))]
@@ -159,63 +216,336 @@ fn steps_option(word: &str) -> Option<u64>
     }
 }
 
-// The run of the words behind the folder, where it has a limit and its word is a main class.
-fn run_with(
-    alloc: Global,
-    folder: &str,
-    steps: Option<u64>,
-    main: &str,
-) -> Result<Option<RunWords>, AllocError>
-    ensures { IfOk result (λ run. option_map request_view run ≡ request_with folder.now steps (internal_name main.now)) }
+fn archive_path<'a>(path: &'a str) -> Option<&'a str>
+    ensures { option_copied result ≡ archive_path path.now }
 {
-    let Some(steps) = steps else {
+    if is_archive_path(path) {
+        Some(path)
+    } else {
+        None
+    }
+}
+
+fn archive_option<'a>(word: &'a str) -> Option<&'a str>
+    ensures { option_copied result ≡ archive_option word.now }
+{
+    match behind("-XX:SharedArchiveFile=", word) {
+        Some(path) => archive_path(path),
+        None => None,
+    }
+}
+
+fn list_option<'a>(word: &'a str) -> Option<&'a str>
+    ensures { option_copied result ≡ list_option word.now }
+{
+    match behind("-XX:SharedClassListFile=", word) {
+        Some(path) => archive_path(path),
+        None => None,
+    }
+}
+
+#[tactic(auto, unfolding(crate::specs::Words::sharing_option))]
+fn sharing_option(word: &str) -> Option<Sharing>
+    ensures { result ≡ sharing_option word.now }
+{
+    if word == "-Xshare:auto" {
+        return Some(Sharing::Auto);
+    }
+    if word == "-Xshare:on" {
+        return Some(Sharing::On);
+    }
+    if word == "-Xshare:dump" {
+        return Some(Sharing::Dump);
+    }
+    None
+}
+
+fn folder_option<'a>(word: &str, folder: &'a str) -> Option<&'a str>
+    ensures { option_copied result ≡ folder_option word.now folder.now }
+{
+    if word == "-cp" && is_folder(folder) {
+        Some(folder)
+    } else {
+        None
+    }
+}
+
+fn with_folder<'a>(taken: Taken<'a>, folder: Option<&'a str>) -> Option<Taken<'a>>
+    ensures { option_map taken_view result ≡ with_folder (taken_view taken.entry) (option_copied folder.entry) }
+{
+    match (taken.folder, folder) {
+        (None, Some(folder)) => Some(Taken {
+            folder: Some(folder),
+            ..taken
+        }),
+        (None, None) | (Some(_), _) => None,
+    }
+}
+
+fn with_archive<'a>(taken: Taken<'a>, archive: Option<&'a str>) -> Option<Taken<'a>>
+    ensures { option_map taken_view result ≡ with_archive (taken_view taken.entry) (option_copied archive.entry) }
+{
+    match (taken.archive, archive) {
+        (None, Some(archive)) => Some(Taken {
+            archive: Some(archive),
+            ..taken
+        }),
+        (None, None) | (Some(_), _) => None,
+    }
+}
+
+fn with_list<'a>(taken: Taken<'a>, list: Option<&'a str>) -> Option<Taken<'a>>
+    ensures { option_map taken_view result ≡ with_list (taken_view taken.entry) (option_copied list.entry) }
+{
+    match (taken.list, list) {
+        (None, Some(list)) => Some(Taken {
+            list: Some(list),
+            ..taken
+        }),
+        (None, None) | (Some(_), _) => None,
+    }
+}
+
+fn with_steps<'a>(taken: Taken<'a>, steps: Option<u64>) -> Option<Taken<'a>>
+    ensures { option_map taken_view result ≡ with_steps (taken_view taken.entry) steps }
+{
+    match (taken.steps, steps) {
+        (None, Some(steps)) => Some(Taken {
+            steps: Some(steps),
+            ..taken
+        }),
+        (None, None) | (Some(_), _) => None,
+    }
+}
+
+fn with_sharing<'a>(taken: Taken<'a>, sharing: Option<Sharing>) -> Option<Taken<'a>>
+    ensures { option_map taken_view result ≡ with_sharing (taken_view taken.entry) sharing }
+{
+    match (taken.sharing, sharing) {
+        (None, Some(sharing)) => Some(Taken {
+            sharing: Some(sharing),
+            ..taken
+        }),
+        (None, None) | (Some(_), _) => None,
+    }
+}
+
+// One word more, where it is an option that wasn't taken before.
+#[tactic(auto, unfolding(crate::specs::Words::with_word))]
+fn with_word<'a>(taken: Taken<'a>, word: &'a str) -> Option<Taken<'a>>
+    ensures { option_map taken_view result ≡ with_word (taken_view taken.entry) word.now }
+{
+    if let Some(next) = with_archive(taken, archive_option(word)) {
+        return Some(next);
+    }
+    if let Some(next) = with_list(taken, list_option(word)) {
+        return Some(next);
+    }
+    if let Some(next) = with_steps(taken, steps_option(word)) {
+        return Some(next);
+    }
+    with_sharing(taken, sharing_option(word))
+}
+
+#[tactic(auto, unfolding(crate::specs::Words::with_words))]
+fn with_words<'a>(taken: Taken<'a>, word: &str, second: &'a str) -> Option<Taken<'a>>
+    ensures { option_map taken_view result ≡ with_words (taken_view taken.entry) word.now second.now }
+{
+    with_folder(taken, folder_option(word, second))
+}
+
+// The options behind the first one, where there is one.
+#[tactic(auto, unfolding(crate::specs::Words::options_from))]
+fn behind_option<'a>(taken: Taken<'a>, words: &'a [String]) -> Option<(Taken<'a>, &'a [String])>
+    ensures value { MatchOption result
+        (options_from (taken_view taken.entry) (map string_bytes words.now) ≡ (taken_view taken.entry, map string_bytes words.now))
+        (λ left. options_from (taken_view taken.entry) (map string_bytes words.now)
+        ≡ options_from (taken_view left.0) (map string_bytes left.1.now)) }
+    ensures shorter { IfSome result (λ left. length left.1.now < length words.now) }
+{
+    let [word, others @ ..] = words else {
+        return None;
+    };
+    let [second, more @ ..] = others else {
+        return match with_word(taken, word.as_str()) {
+            Some(next) => Some((next, others)),
+            None => None,
+        };
+    };
+    if let Some(next) = with_words(taken, word.as_str(), second.as_str()) {
+        return Some((next, more));
+    }
+    match with_word(taken, word.as_str()) {
+        Some(next) => Some((next, others)),
+        None => None,
+    }
+}
+
+// What the options at the front of the words ask for, and the words behind them.
+fn options<'a>(words: &'a [String]) -> (Taken<'a>, &'a [String])
+    ensures { left_view result ≡ options_from nothing (map string_bytes words.now) }
+{
+    let mut taken = Taken {
+        folder: None,
+        archive: None,
+        list: None,
+        steps: None,
+        sharing: None,
+    };
+    let mut rest = words;
+    while let Some((next, more)) = behind_option(taken, rest) {
+        taken = next;
+        rest = more;
+    }
+    (taken, rest)
+}
+
+// Whether a run with this option has to use its archive; a dump is no run.
+fn share_of(sharing: Option<Sharing>) -> Option<Share>
+    ensures { option_map is_on_share result ≡ is_on sharing }
+{
+    match sharing {
+        None => Some(Share::Auto),
+        Some(Sharing::Auto) => Some(Share::Auto),
+        Some(Sharing::On) => Some(Share::On),
+        Some(Sharing::Dump) => None,
+    }
+}
+
+fn is_dump(sharing: Option<Sharing>) -> bool
+    ensures { result ≡ is_dump sharing }
+{
+    match sharing {
+        None => false,
+        Some(Sharing::Auto) => false,
+        Some(Sharing::On) => false,
+        Some(Sharing::Dump) => true,
+    }
+}
+
+// The text as one of its own, where there is one.
+fn owned(alloc: Global, text: Option<&str>) -> Result<Option<String>, AllocError>
+    ensures { IfOk result (λ own. option_map string_bytes own ≡ option_copied text.entry) }
+{
+    let Some(text) = text else {
         return Ok(None);
     };
+    let own = String::from_str(alloc, text)?;
+    Ok(Some(own))
+}
+
+// The run of the word that stands behind the options.
+#[tactic(auto, unfolding(crate::specs::Words::run_with))]
+fn run_with(alloc: Global, taken: Taken<'_>, main: &str) -> Result<Option<RunWords>, AllocError>
+    ensures { IfOk result (λ run. option_map run_view run ≡ run_with (taken_view taken.entry) (internal_name main.now)) }
+{
+    let Some(folder) = taken.folder else {
+        return Ok(None);
+    };
+    let Some(share) = share_of(taken.sharing) else {
+        return Ok(None);
+    };
+    if taken.list.is_some() {
+        return Ok(None);
+    }
     let Some(name) = internal_name(alloc, main)? else {
         return Ok(None);
     };
+    let archive = owned(alloc, taken.archive)?;
     let folder = String::from_str(alloc, folder)?;
     Ok(Some(RunWords {
         folder,
+        share,
+        archive,
+        steps: taken.steps.unwrap_or(STEPS),
         name,
-        steps,
     }))
 }
 
-// The run of the words behind the folder.
-#[tactic(auto, unfolding(crate::specs::Words::run_of))]
-fn run_of(alloc: Global, folder: &str, words: &[String]) -> Result<Option<RunWords>, AllocError>
-    ensures { IfOk result (λ run. option_map request_view run ≡ run_of folder.now (map string_bytes words.now)) }
+// The dump of the options that were taken.
+#[tactic(auto, unfolding(crate::specs::Words::dump_with))]
+fn dump_with(alloc: Global, taken: Taken<'_>) -> Result<Option<DumpWords>, AllocError>
+    ensures { IfOk result (λ dump. option_map dump_view dump ≡ dump_with (taken_view taken.entry)) }
 {
-    if let [main] = words {
-        return run_with(alloc, folder, Some(STEPS), main.as_str());
+    if !is_dump(taken.sharing) || taken.steps.is_some() {
+        return Ok(None);
     }
-    let [steps, main] = words else {
+    let Some(folder) = taken.folder else {
         return Ok(None);
     };
-    run_with(alloc, folder, steps_option(steps.as_str()), main.as_str())
+    let Some(archive) = taken.archive else {
+        return Ok(None);
+    };
+    let Some(list) = taken.list else {
+        return Ok(None);
+    };
+    let folder = String::from_str(alloc, folder)?;
+    let archive = String::from_str(alloc, archive)?;
+    let list = String::from_str(alloc, list)?;
+    Ok(Some(DumpWords {
+        folder,
+        archive,
+        list,
+    }))
 }
 
-/// The request of the words, or `None` where they are outside the grammar: `-cp`, a folder, at most one `--steps=N`, a
-/// main class, and nothing else. The folder isn't empty, isn't `*`, holds no `:` and doesn't end in `.jar` or `.zip`. N
-/// is 1 to 20 decimal digits, or `0x` and 1 to 16 hexadecimal digits, and below 2^64. The main class consists of ASCII
-/// letters, digits, `_` and `$` in segments between dots, none of them empty.
-#[tactic(auto, unfolding(crate::specs::Words::request_of))]
-pub fn read_words(alloc: Global, words: &[String]) -> Result<Option<RunWords>, AllocError>
-    ensures { IfOk result (λ request. option_map request_view request ≡ request_of (map string_bytes words.now)) }
+fn run(alloc: Global, taken: Taken<'_>, main: &str) -> Result<Option<Command>, AllocError>
+    ensures { IfOk result (λ command. option_map command_view command ≡ option_map Run (run_with (taken_view taken.entry) (internal_name main.now))) }
 {
-    let [option, folder, others @ ..] = words else {
+    match run_with(alloc, taken, main)? {
+        Some(words) => Ok(Some(Command::Run(words))),
+        None => Ok(None),
+    }
+}
+
+fn dump(alloc: Global, taken: Taken<'_>) -> Result<Option<Command>, AllocError>
+    ensures { IfOk result (λ command. option_map command_view command ≡ option_map Dump (dump_with (taken_view taken.entry))) }
+{
+    match dump_with(alloc, taken)? {
+        Some(words) => Ok(Some(Command::Dump(words))),
+        None => Ok(None),
+    }
+}
+
+// What the words behind the options ask for.
+#[tactic(auto, unfolding(crate::specs::Words::request_with))]
+fn request_with(
+    alloc: Global,
+    taken: Taken<'_>,
+    words: &[String],
+) -> Result<Option<Command>, AllocError>
+    ensures { IfOk result (λ command. option_map command_view command ≡ request_with (taken_view taken.entry) (map string_bytes words.now)) }
+{
+    let [main, others @ ..] = words else {
+        return dump(alloc, taken);
+    };
+    let [] = others else {
         return Ok(None);
     };
-    if option.as_str() != "-cp" || !is_folder(folder.as_str()) {
-        return Ok(None);
-    }
-    run_of(alloc, folder.as_str(), others)
+    run(alloc, taken, main.as_str())
+}
+
+/// What the words ask for, or `None` where they are outside the grammar, which is that of a run or of a dump.
+///
+/// A run: options in any order, each at most once, then a main class and nothing else. The options are `-cp` with a
+/// folder, which has to be there, `--steps=N`, one of `-Xshare:auto` and `-Xshare:on`, and `-XX:SharedArchiveFile=A`.
+/// A dump: `-Xshare:dump`, `-XX:SharedClassListFile=F`, `-XX:SharedArchiveFile=A` and `-cp` with a folder, in any order,
+/// each once, and nothing else.
+///
+/// The folder isn't empty, isn't `*`, holds no `:` and doesn't end in `.jar` or `.zip`. A and F aren't empty, hold no
+/// `:` and don't end in `.class`. N is 1 to 20 decimal digits, or `0x` and 1 to 16 hexadecimal digits, and below 2^64.
+/// The main class consists of ASCII letters, digits, `_` and `$` in segments between dots, none of them empty.
+#[tactic(auto, unfolding(crate::specs::Words::request_of))]
+pub fn read_words(alloc: Global, words: &[String]) -> Result<Option<Command>, AllocError>
+    ensures { IfOk result (λ command. option_map command_view command ≡ request_of (map string_bytes words.now)) }
+{
+    let (taken, others) = options(words);
+    request_with(alloc, taken, others)
 }
 
 /// The path of the main class's file: its folder, a slash, its internal name and `.class`.
 pub fn class_path(words: &RunWords) -> Result<String, AllocError>
-    ensures { IfOk result (λ path. string_bytes path ≡ path_of (request_view words.now)) }
+    ensures { IfOk result (λ path. string_bytes path ≡ path_of (run_view words.now)) }
 {
     let mut path = words.folder.clone()?;
     path.push_str("/")?;
@@ -226,7 +556,7 @@ pub fn class_path(words: &RunWords) -> Result<String, AllocError>
 
 #[cfg(test)]
 mod tests {
-    use super::{class_path, read_words};
+    use super::{Command, Share, class_path, read_words};
     use std::test::Fail;
 
     // A folder and a main class, and the path of the file where they are a request.
@@ -259,34 +589,124 @@ mod tests {
         Ok(all)
     }
 
+    // The words of a line, which are separated by spaces.
+    fn words_in(rt: &HostRuntime, line: &str) -> Result<Vec<String>, Fail> {
+        let mut all = Vec::new(rt.alloc());
+        for word in line.split(' ') {
+            all.push(String::from_str(rt.alloc(), word)?)?;
+        }
+        Ok(all)
+    }
+
+    // What words ask for, as a text: empty where it is nothing.
+    fn told(rt: &HostRuntime, words: &[String]) -> Result<String, Fail> {
+        let alloc = rt.alloc();
+        Ok(match read_words(alloc, words)? {
+            None => String::new(alloc),
+            Some(Command::Run(run)) => {
+                let path = class_path(&run)?;
+                let share = match run.share {
+                    Share::Auto => "auto",
+                    Share::On => "on",
+                };
+                let archive = run.archive.as_deref().unwrap_or("-");
+                format!(in alloc; "run {path} {share} {archive} {}", run.steps)?
+            }
+            Some(Command::Dump(dump)) => {
+                format!(in alloc; "dump {} {} {}", dump.folder, dump.archive, dump.list)?
+            }
+        })
+    }
+
     #[test]
     fn folders_and_main_classes(rt: HostRuntime) -> Result<(), Fail> {
         for (folder, main, path) in CASES {
             let words = words_of(&rt, &["-cp", folder, main])?;
             match read_words(rt.alloc(), &words)? {
+                Some(Command::Run(run)) => assert_eq!(rt; class_path(&run)?.as_str(), path),
+                Some(Command::Dump(_dump)) => assert!(rt; false),
                 None => assert_eq!(rt; path, "", "at {folder} {main}"),
-                Some(request) => assert_eq!(rt; class_path(&request)?.as_str(), path),
             }
         }
         Ok(())
     }
 
+    // Words, and what they ask for.
+    static LINES: &str = "\
+-cp app Main = run app/Main.class auto - 1000000000
+-cp app --steps=7 Main = run app/Main.class auto - 7
+--steps=0x10 -cp app Main = run app/Main.class auto - 16
+-Xshare:auto -cp app Main = run app/Main.class auto - 1000000000
+-Xshare:on -cp app Main = run app/Main.class on - 1000000000
+-cp app -Xshare:on Main = run app/Main.class on - 1000000000
+-XX:SharedArchiveFile=a.jsa -cp app p.Main = run app/p/Main.class auto a.jsa 1000000000
+-cp app -XX:SharedArchiveFile=a.jsa Main = run app/Main.class auto a.jsa 1000000000
+--steps=1 -XX:SharedArchiveFile=a -Xshare:on -cp b C = run b/C.class on a 1
+-Xshare:on -cp b --steps=1 -XX:SharedArchiveFile=a C = run b/C.class on a 1
+-XX:SharedArchiveFile=.classes -cp -cp C = run -cp/C.class auto .classes 1000000000
+-XX:SharedArchiveFile=a.CLASS -cp b C = run b/C.class auto a.CLASS 1000000000
+-Xshare:dump -XX:SharedClassListFile=l -XX:SharedArchiveFile=a -cp d = dump d a l
+-cp d -XX:SharedArchiveFile=a -XX:SharedClassListFile=l -Xshare:dump = dump d a l
+-XX:SharedClassListFile=l -cp d -Xshare:dump -XX:SharedArchiveFile=a = dump d a l
+-XX:SharedArchiveFile=a -Xshare:dump -cp d -XX:SharedClassListFile=a = dump d a a
+-cp =
+Main =
+-cp app =
+-classpath app Main =
+-cp app Main x =
+-cp app -cp app Main =
+-cp app -cp =
+--steps=1 --steps=1 -cp app Main =
+-Xshare:auto -Xshare:auto -cp app Main =
+-Xshare:auto -Xshare:on -cp app Main =
+-Xshare:on -Xshare:auto -cp app Main =
+-Xshare:off -cp app Main =
+-Xshare:dump -cp app Main =
+-Xshare -cp app Main =
+-XX:SharedArchiveFile=a -XX:SharedArchiveFile=a -cp app Main =
+-XX:SharedArchiveFile=s:d -cp app Main =
+-XX:SharedArchiveFile= -cp app Main =
+-XX:SharedArchiveFile=a.class -cp app Main =
+-XX:SharedClassListFile=l -cp app Main =
+-cp app Main --steps=1 =
+-cp app Main -Xshare:on =
+-cp app --steps Main =
+-cp app --steps= Main =
+-cp app --steps=18446744073709551616 Main =
+-Xshare:dump -XX:SharedClassListFile=l -XX:SharedArchiveFile=a -cp d Main =
+-Xshare:dump -XX:SharedClassListFile=l -XX:SharedArchiveFile=a -cp d --steps=1 =
+-Xshare:dump -XX:SharedClassListFile=l -XX:SharedArchiveFile=a -cp d -Xshare:dump =
+-Xshare:dump -XX:SharedClassListFile=l -XX:SharedArchiveFile=a -cp d -cp d =
+-Xshare:dump -XX:SharedClassListFile=l -XX:SharedClassListFile=l -XX:SharedArchiveFile=a -cp d =
+-Xshare:dump -XX:SharedArchiveFile=a -XX:SharedClassListFile=l -XX:SharedArchiveFile=a -cp d =
+-XX:SharedClassListFile=l -XX:SharedArchiveFile=a -cp d =
+-Xshare:on -XX:SharedClassListFile=l -XX:SharedArchiveFile=a -cp d =
+-Xshare:dump -XX:SharedArchiveFile=a -cp d =
+-Xshare:dump -XX:SharedClassListFile=l -cp d =
+-Xshare:dump -XX:SharedClassListFile=l -XX:SharedArchiveFile=a =
+-Xshare:dump -XX:SharedClassListFile=l.class -XX:SharedArchiveFile=a -cp d =
+-Xshare:dump -XX:SharedClassListFile= -XX:SharedArchiveFile=a -cp d =
+-Xshare:dump -XX:SharedClassListFile=l -XX:SharedArchiveFile=s:d -cp d =
+-Xshare:dump -XX:SharedClassListFile=l -XX:SharedArchiveFile=.class -cp d =
+-Xshare:dump -XX:SharedClassListFile=l -XX:SharedArchiveFile=a -cp d:e =";
+
     #[test]
-    fn a_limit_that_is_not_said_is_a_thousand_millions(rt: HostRuntime) -> Result<(), Fail> {
-        let words = words_of(&rt, &["-cp", "app", "Main"])?;
-        let request = read_words(rt.alloc(), &words)?.ok_or("no request")?;
-        assert_eq!(rt; request.steps, 1_000_000_000);
+    fn words_and_what_they_ask_for(rt: HostRuntime) -> Result<(), Fail> {
+        for line in LINES.lines() {
+            let Some((words, asked)) = line.split_once(" =") else {
+                return Err(Fail::from("no line"));
+            };
+            let words = words_in(&rt, words)?;
+            let told = told(&rt, &words)?;
+            assert_eq!(rt; told.as_str(), asked.trim(), "at {line}");
+        }
         Ok(())
     }
 
     #[test]
-    fn other_words_are_no_request(rt: HostRuntime) -> Result<(), Fail> {
+    fn no_words_are_no_request(rt: HostRuntime) -> Result<(), Fail> {
         let none = words_of(&rt, &[])?;
-        assert!(rt; read_words(rt.alloc(), &none)?.is_none());
-        let other = words_of(&rt, &["-classpath", "app", "Main"])?;
-        assert!(rt; read_words(rt.alloc(), &other)?.is_none());
-        let more = words_of(&rt, &["-cp", "app", "Main", "x"])?;
-        assert!(rt; read_words(rt.alloc(), &more)?.is_none());
+        assert_eq!(rt; told(&rt, &none)?.as_str(), "");
         Ok(())
     }
 }
