@@ -2,3 +2,8 @@ pub mod Forms
 pub mod Loop
 pub mod PoolCodecs
 pub mod Spelled
+pub mod ClassCodecs
+pub mod TreesSpelled
+pub mod DistinctKeys
+pub mod Places
+pub mod SamePlaces

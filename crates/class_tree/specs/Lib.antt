@@ -4,3 +4,10 @@ pub mod Reading
 pub mod Links
 pub mod Pools
 pub mod TextForms
+pub mod ClassFiles
+pub mod ClassReading
+pub mod Flags
+pub mod Trees
+pub mod WellFormed
+pub mod TextPlaces
+pub mod Spells

@@ -1,7 +1,10 @@
 //! The constant pool (JVMS 4.4).
 ghost use Rattle.std.specs.Prelude.{◌≡◌};
+ghost use Rattle.std.specs.Option.{option_copied};
+ghost use Rattle.class_tree.specs.WellFormed.{text_of, class_name};
+ghost use Rattle.class_tree.specs.Trees as trees;
 
-use sqlite_items::Items;
+use sqlite_items::{Items, at};
 use std::marker::Model;
 
 /// An entry of the constant pool. A `u16` is an index of the pool, unless its line says otherwise.
@@ -62,5 +65,36 @@ impl Pool {
         ensures { result.now ≡ self.now }
     {
         self.entries.as_slice()
+    }
+
+    /// The text of the Utf8 at an index, and `None` where no Utf8 stands there.
+    pub fn text(&self, index: u16) -> Option<&[u8]>
+        ensures { option_copied result ≡ text_of self.now index }
+    {
+        match at(self.entries(), usize::from(index)) {
+            Some(PoolEntry::Utf8(text)) => Some(text.as_slice()),
+            _ => None,
+        }
+    }
+
+    /// Whether a Utf8 with this text stands at an index.
+    pub fn is_text(&self, index: u16, text: &[u8]) -> bool
+        ensures { result ≡ trees.is_text self.now index text.now }
+    {
+        match self.text(index) {
+            Some(found) => found == text,
+            None => false,
+        }
+    }
+
+    /// The text that the Class at an index names: the name of a class, or the descriptor of an array. `None` where no
+    /// Class stands there.
+    pub fn class_name(&self, index: u16) -> Option<&[u8]>
+        ensures { option_copied result ≡ class_name self.now index }
+    {
+        match at(self.entries(), usize::from(index)) {
+            Some(PoolEntry::Class(name)) => self.text(*name),
+            _ => None,
+        }
     }
 }

@@ -1,19 +1,33 @@
-//! Class files as trees, and the reading of their constant pool (JVMS 4.1 to 4.7).
+//! Class files as trees: which bytes spell which tree, and the reading of their constant pool (JVMS 4.1 to 4.7).
 #![tactic(auto)]
 
 mod constant_pool;
+mod distinct;
 mod fault;
+mod flags;
+mod laws;
 mod links;
+mod members;
 mod pool_reading;
 mod reading;
 mod tested_pool;
+mod tested_tree;
+mod text_places;
 mod tree;
+mod well_formed;
 
 pub use constant_pool::{Pool, PoolEntry};
 pub use fault::FormatFault;
+pub use laws::{
+    codes_are_spelled, one_tree, other_versions_have_no_tree, trees_are_spelled,
+    versions_are_written,
+};
 pub use pool_reading::{one_pool, read_pool};
 pub use tree::{ClassTree, CodeTree, FieldTree, Handler, MethodTree};
+pub use well_formed::is_well_formed;
 
+#[cfg(test)]
+mod distinct_tests;
 #[cfg(test)]
 mod test_pools;
 #[cfg(test)]

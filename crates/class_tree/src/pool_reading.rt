@@ -27,9 +27,9 @@ fn linked_pool(alloc: Global, cursor: &mut Cursor<'_>) -> Result<Pool, FormatFau
 ///
 /// # Errors
 ///
-/// `NotClass` comes exactly where the bytes begin with no pool: where they are cut, an entry has a tag that is none, a
-/// Long or a Double has no second index below the count, an index names no entry of the kind wanted, or a text is not
-/// what it is named for. `Memory` comes where memory runs out, and `Version` never. After an error nothing is said of
+/// `NotClass` comes exactly where the bytes begin with no pool: where they are cut, the count is 0, an entry has a tag
+/// that is none, a Long or a Double has no second index below the count, an index names no entry of the kind wanted, the
+/// kind of a handle isn't 1 to 9, or a text is no modified UTF-8 or not what it is named for. `Memory` comes where memory runs out, and `Version` never. After an error nothing is said of
 /// the cursor.
 pub fn read_pool(alloc: Global, cursor: &mut Cursor<'_>) -> Result<Pool, FormatFault>
     // What is read is spelled so.
@@ -37,6 +37,8 @@ pub fn read_pool(alloc: Global, cursor: &mut Cursor<'_>) -> Result<Pool, FormatF
     // What is spelled so is read, unless memory runs out.
     ensures only { (pool : List PoolEntry) (rest : List ℕ) → SpellsPool cursor.old pool rest → Gives result cursor.new (Some (pool, rest)) }
     ensures no_version { NoVersion result }
+    // The pool and what is left are what reading the entries one after the other gives.
+    ensures read { Gives result cursor.new (linked_pool_at cursor.old) }
 {
     cursor.are_bytes();
     linked_pool(alloc, cursor)

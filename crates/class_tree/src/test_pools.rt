@@ -58,6 +58,8 @@ no a third byte that is none; 2 1 0 3 225 128 65
 no a class of index 0; 2 7 0 0
 no a class of an index past the end; 2 7 0 2
 no a class of itself; 2 7 0 1
+no a name and type whose type is a class; 4 utf8:a 7 0 1 12 0 1 0 2
+no a method of an interface whose second part is a class; 4 utf8:K 7 0 1 11 0 2 0 2
 no a class of the second index of a Long; 4 5 0 0 0 0 0 0 0 0 7 0 2
 no a class of a Long; 4 5 0 0 0 0 0 0 0 0 7 0 1
 no a class of no name; 3 utf8: 7 0 1

@@ -1,8 +1,11 @@
 //! Entries of a constant pool, with what their texts are.
 ghost use Rattle.std.specs.Prelude.{◌≡◌, IfOk, slice_get};
 ghost use Rattle.std.specs.Option.{option_copied};
+ghost use Rattle.jsa_names.specs.Names as names;
 ghost use Rattle.class_tree.specs.Links as links;
 ghost use Rattle.class_tree.specs.TextForms as forms;
+ghost use Rattle.class_tree.specs.Trees as trees;
+ghost use Rattle.class_tree.specs.WellFormed as well_formed;
 
 use crate::constant_pool::PoolEntry;
 use jsa_names::{field_type, is_class_name, is_member_name, is_method_name, method_type};
@@ -14,13 +17,17 @@ use std::marker::Model;
 #[derive(Clone, Copy)]
 struct TextForms {
     is_text: bool,
+    is_class_name: bool,
     is_class_or_array: bool,
     is_member_name: bool,
     is_field_type: bool,
     is_method_name: bool,
     is_method_type: bool,
     is_init: bool,
+    is_declared_name: bool,
     returns_void: bool,
+    // The slots that the parameters of a method descriptor take, `this` aside.
+    parameter_slots: Option<u8>,
 }
 
 fn begins_array(text: &[u8]) -> bool
@@ -65,7 +72,39 @@ fn returns_void(text: &[u8]) -> bool
     }
 }
 
-fn text_of(entry: &PoolEntry) -> Option<&[u8]>
+fn is_clinit(text: &[u8]) -> bool
+    ensures { result ≡ well_formed.is_clinit text.now }
+{
+    text == b"<clinit>".as_slice()
+}
+
+fn is_declared_name(text: &[u8]) -> bool
+    ensures { result ≡ well_formed.is_declared_name text.now }
+{
+    is_method_name(text) || is_clinit(text)
+}
+
+fn parameter_slots(text: &[u8]) -> Option<u8>
+    ensures { result ≡ well_formed.parameter_slots (Some text.now) }
+{
+    match method_type(text) {
+        Some(method) => Some(method.slots() as u8),
+        None => None,
+    }
+}
+
+fn is_int_type(text: &[u8]) -> bool
+    ensures { result ≡ well_formed.is_int_type text.now }
+{
+    text == b"I".as_slice()
+        || text == b"S".as_slice()
+        || text == b"C".as_slice()
+        || text == b"B".as_slice()
+        || text == b"Z".as_slice()
+}
+
+/// The text of an entry, and `None` where it has none.
+pub(crate) fn text_of(entry: &PoolEntry) -> Option<&[u8]>
     ensures { option_copied result ≡ links.text_in (Some entry.now) }
 {
     match entry {
@@ -79,13 +118,16 @@ fn no_forms() -> TextForms
 {
     TextForms {
         is_text: false,
+        is_class_name: false,
         is_class_or_array: false,
         is_member_name: false,
         is_field_type: false,
         is_method_name: false,
         is_method_type: false,
         is_init: false,
+        is_declared_name: false,
         returns_void: false,
+        parameter_slots: None,
     }
 }
 
@@ -97,13 +139,16 @@ fn forms_of(entry: &PoolEntry) -> TextForms
     };
     TextForms {
         is_text: true,
+        is_class_name: is_class_name(text),
         is_class_or_array: is_class_or_array(text),
         is_member_name: is_member_name(text),
         is_field_type: is_field_type(text),
         is_method_name: is_method_name(text),
         is_method_type: is_method_type(text),
         is_init: is_init(text),
+        is_declared_name: is_declared_name(text),
         returns_void: returns_void(text),
+        parameter_slots: parameter_slots(text),
     }
 }
 
@@ -232,6 +277,118 @@ impl<'a> TestedPool<'a> {
             Some(PoolEntry::NameAndType(name, desc)) => {
                 !self.forms(*name).is_init || self.forms(*desc).returns_void
             }
+            _ => false,
+        }
+    }
+
+    // ---- what the members of a class want of it
+
+    fn text(&self, index: u16) -> Option<&[u8]>
+        ensures { option_copied result ≡ well_formed.text_of self.now index }
+    {
+        match self.entry(index) {
+            Some(entry) => text_of(entry),
+            None => None,
+        }
+    }
+
+    // Whether a Utf8 with this text stands at an index. Texts of two lengths are told apart at once.
+    fn is_text(&self, index: u16, text: &[u8]) -> bool
+        ensures { result ≡ trees.is_text self.now index text.now }
+    {
+        match self.text(index) {
+            Some(found) => found == text,
+            None => false,
+        }
+    }
+
+    pub(crate) fn has_member_name(&self, index: u16) -> bool
+        ensures { result ≡ links.has_text self.now index names.is_member_name }
+    {
+        self.forms(index).is_member_name
+    }
+
+    pub(crate) fn has_declared_name(&self, index: u16) -> bool
+        ensures { result ≡ links.has_text self.now index well_formed.is_declared_name }
+    {
+        self.forms(index).is_declared_name
+    }
+
+    pub(crate) fn has_field_type(&self, index: u16) -> bool
+        ensures { result ≡ links.has_text self.now index links.is_field_type }
+    {
+        self.forms(index).is_field_type
+    }
+
+    pub(crate) fn is_init(&self, index: u16) -> bool
+        ensures { result ≡ links.has_text self.now index links.is_init }
+    {
+        self.forms(index).is_init
+    }
+
+    pub(crate) fn is_clinit(&self, index: u16) -> bool
+        ensures { result ≡ links.has_text self.now index well_formed.is_clinit }
+    {
+        self.is_text(index, b"<clinit>")
+    }
+
+    pub(crate) fn returns_void(&self, index: u16) -> bool
+        ensures { result ≡ links.has_text self.now index links.returns_void }
+    {
+        self.forms(index).returns_void
+    }
+
+    pub(crate) fn is_plain_void(&self, index: u16) -> bool
+        ensures { result ≡ links.has_text self.now index well_formed.is_plain_void }
+    {
+        self.is_text(index, b"()V")
+    }
+
+    /// The slots that the parameters of a method descriptor take, and `None` where no method descriptor stands.
+    pub(crate) fn parameter_slots(&self, index: u16) -> Option<u8>
+        ensures { result ≡ well_formed.parameter_slots (well_formed.text_of self.now index) }
+    {
+        self.forms(index).parameter_slots
+    }
+
+    fn has_int_type(&self, index: u16) -> bool
+        ensures { result ≡ links.has_text self.now index well_formed.is_int_type }
+    {
+        match self.text(index) {
+            Some(desc) => is_int_type(desc),
+            None => false,
+        }
+    }
+
+    /// Whether the entry at an index is a constant for fields with the descriptor at another.
+    pub(crate) fn is_constant_for(&self, desc: u16, index: u16) -> bool
+        ensures { result ≡ well_formed.is_constant_for self.now desc (slice_get self.now index) }
+    {
+        match self.entry(index) {
+            Some(PoolEntry::Integer(_)) => self.has_int_type(desc),
+            Some(PoolEntry::Float(_)) => self.is_text(desc, b"F"),
+            Some(PoolEntry::Long(_)) => self.is_text(desc, b"J"),
+            Some(PoolEntry::Double(_)) => self.is_text(desc, b"D"),
+            Some(PoolEntry::Str(_)) => self.is_text(desc, b"Ljava/lang/String;"),
+            _ => false,
+        }
+    }
+
+    /// Whether a Class at an index names a class or an interface, and no array.
+    pub(crate) fn is_plain_class(&self, index: u16) -> bool
+        ensures { result ≡ well_formed.is_plain_class self.now index }
+    {
+        match self.entry(index) {
+            Some(PoolEntry::Class(name)) => self.forms(*name).is_class_name,
+            _ => false,
+        }
+    }
+
+    pub(crate) fn is_object_class(&self, index: u16) -> bool
+        ensures { result ≡ well_formed.is_object_class self.now index }
+    {
+        match self.entry(index) {
+            Some(PoolEntry::Class(name)) => self.is_text(*name, b"java/lang/Object"),
             _ => false,
         }
     }

@@ -1,0 +1,12 @@
+use Rattle.std.proofs.Common.{◌≡◌, Bool, ap, sym, subst, ◌∙◌}
+use Rattle.std.specs.Prelude.{IfOk}
+use Rattle.class_tree.specs.TextPlaces.{is_same_key}
+use Rattle.class_tree.specs.WellFormed.{are_distinct}
+use Rattle.class_tree.specs.WellFormed.{method_member}
+use Rattle.class_tree.proofs.SamePlaces.{members_by_keys, pair_cmp}
+use Rattle.class_tree.proofs.distinct.are_distinct_methods.Goals as goal
+
+pub returns : goal.returns
+returns c =
+    let e = c.deref.ensures.value ∙ c.in_ok-keys.ensures in
+    subst (λ (b : Bool). IfOk c.are_distinct.result (λ distinct. distinct ≡ b)) (ap (are_distinct (is_same_key pair_cmp)) e ∙ sym (members_by_keys c.args.places.now method_member c.args.methods.now)) c.are_distinct.ensures
