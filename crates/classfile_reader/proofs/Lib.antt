@@ -1,4 +1,7 @@
+pub mod PartLoops
+pub mod Kept
+pub mod ClassAnswered
 pub mod Loop
-pub mod PartsCodecs
+pub mod Trees
 pub mod Programs
 pub mod InnerNames

@@ -1,47 +1,15 @@
--- Reading items one after the other, as a loop does.
+-- Reading instructions one after the other to the end of the bytes, as a loop does.
 use Rattle.std.proofs.Common.{◌≡◌, ℕ, suc, length, ◌-◌, ◌+◌, ◌≤◌, ◌<◌, List, [], ◌∷◌, ◌++◌, Option, Some, None, Err, refl, sym, ap, ◌∙◌, append_assoc, arith}
 use Rattle.std.proofs.lemmas.List.{append-nil}
-use Rattle.jsa_base.specs.Reading.{◌>>=◌, Read, times}
+use Rattle.jsa_base.specs.Reading.{◌>>=◌}
 use Rattle.classfile_reader.specs.declared.fault.FormFault.{FormFault}
 use Rattle.classfile_reader.specs.declared.fault.FormFault.TheVariants.{NotFirstForm, Memory}
-use Rattle.classfile_reader.specs.declared.parts.ClassParts.{ClassParts}
+use Rattle.class_tree.specs.declared.tree.ClassTree.{ClassTree}
 use Rattle.classfile_reader.specs.declared.program.Instruction.{Instruction}
 use Rattle.classfile_reader.specs.Outcomes.{Gives, Yields}
 use Rattle.classfile_reader.specs.Program.{instruction_at, instructions_in}
 
 -- what was read before, and what is still read
-abbrev pub with_front : {A : Type 0} → List A → Read (List A) → Read (List A)
-with_front front read = read >>= λ x. Some (front ++ x.0, x.1)
-
-regroup : {A : Type 0} (front : List A) (n : A) (read : Read (List A)) → with_front front (read >>= λ x. Some (n ∷ x.0, x.1)) ≡ with_front (front ++ n ∷ []) read
-regroup {A} front n (Some x) = ap (λ (ns : List A). Some (ns, x.1)) (simp append_assoc)
-regroup front n None = refl
-
-pub goes_on : {A : Type 0} (item : List ℕ → Read A) (front : List A) (count i : ℕ) (bytes : List ℕ) (x : A) (after : List ℕ) (total : Read (List A)) → i < count → item bytes ≡ Some (x, after)
-    → with_front front (times item (count - i) bytes) ≡ total → with_front (front ++ x ∷ []) (times item (count - (i + 1)) after) ≡ total
-unfolding times
-goes_on item front count i bytes x after total lt h so_far =
-    let k : count - i ≡ suc (count - (i + 1)) = omega arith in
-    let one : with_front front (times item (count - i) bytes) ≡ with_front (front ++ x ∷ []) (times item (count - (i + 1)) after) = rw (k, h) (regroup front x (times item (count - (i + 1)) after)) in
-    sym one ∙ so_far
-
-pub ends : {A : Type 0} (item : List ℕ → Read A) (e : FormFault) (front : List A) (count i : ℕ) (bytes after : List ℕ) (total : Read (List A)) → i < count → Gives {A = A} (Err e) after (item bytes)
-    → with_front front (times item (count - i) bytes) ≡ total → Gives {A = List A} (Err e) after total
-unfolding times
-ends item Memory front count i bytes after total lt h so_far = tt
-ends item NotFirstForm front count i bytes after total lt h so_far =
-    let k : count - i ≡ suc (count - (i + 1)) = omega arith in
-    let one : with_front front (times item (count - i) bytes) ≡ None = rw (k, h) refl in
-    sym so_far ∙ one
-
-pub is_done : {A : Type 0} (item : List ℕ → Read A) (front : List A) (count i : ℕ) (bytes : List ℕ) (total : Read (List A)) → count ≤ i → with_front front (times item (count - i) bytes) ≡ total → total ≡ Some (front, bytes)
-unfolding times
-is_done {A} item front count i bytes total le so_far =
-    let k : count - i ≡ 0 = omega arith in
-    let one : with_front front (times item (count - i) bytes) ≡ Some (front, bytes) = rw k (ap (λ (ns : List A). Some (ns, bytes)) (append-nil front)) in
-    sym so_far ∙ one
-
--- The same for instructions to the end of the bytes.
 abbrev pub whole_with_front : List Instruction → Option (List Instruction) → Option (List Instruction)
 whole_with_front front read = read >>= λ x. Some (front ++ x)
 
@@ -49,7 +17,7 @@ whole_regroup : (front : List Instruction) (n : Instruction) (read : Option (Lis
 whole_regroup front n (Some x) = ap (λ (ns : List Instruction). Some ns) (simp append_assoc)
 whole_regroup front n None = refl
 
-pub instructions_go_on : (p : ClassParts) (front : List Instruction) (count i : ℕ) (bytes : List ℕ) (n : Instruction) (after : List ℕ) (total : Option (List Instruction)) → i < count → 0 < length bytes → instruction_at p bytes ≡ Some (n, after)
+pub instructions_go_on : (p : ClassTree) (front : List Instruction) (count i : ℕ) (bytes : List ℕ) (n : Instruction) (after : List ℕ) (total : Option (List Instruction)) → i < count → 0 < length bytes → instruction_at p bytes ≡ Some (n, after)
     → whole_with_front front (instructions_in p (count - i) bytes) ≡ total → whole_with_front (front ++ n ∷ []) (instructions_in p (count - (i + 1)) after) ≡ total
 instructions_go_on p front count i [] n after total lt some h so_far = absurd (omega arith)
 instructions_go_on p front count i (b ∷ bytes) n after total lt some h so_far =
@@ -57,7 +25,7 @@ instructions_go_on p front count i (b ∷ bytes) n after total lt some h so_far 
     let one : whole_with_front front (instructions_in p (count - i) (b ∷ bytes)) ≡ whole_with_front (front ++ n ∷ []) (instructions_in p (count - (i + 1)) after) = rw (k, h) (whole_regroup front n (instructions_in p (count - (i + 1)) after)) in
     sym one ∙ so_far
 
-pub instructions_end : (p : ClassParts) (e : FormFault) (front : List Instruction) (count i : ℕ) (bytes after : List ℕ) (total : Option (List Instruction)) → i < count → 0 < length bytes → Gives {A = Instruction} (Err e) after (instruction_at p bytes)
+pub instructions_end : (p : ClassTree) (e : FormFault) (front : List Instruction) (count i : ℕ) (bytes after : List ℕ) (total : Option (List Instruction)) → i < count → 0 < length bytes → Gives {A = Instruction} (Err e) after (instruction_at p bytes)
     → whole_with_front front (instructions_in p (count - i) bytes) ≡ total → Yields {A = List Instruction} (Err e) total
 instructions_end p Memory front count i bytes after total lt some h so_far = tt
 instructions_end p NotFirstForm front count i [] after total lt some h so_far = absurd (omega arith)
@@ -66,11 +34,11 @@ instructions_end p NotFirstForm front count i (b ∷ bytes) after total lt some 
     let one : whole_with_front front (instructions_in p (count - i) (b ∷ bytes)) ≡ None = rw (k, h) refl in
     sym so_far ∙ one
 
-pub instructions_are_done : (p : ClassParts) (front : List Instruction) (n : ℕ) (bytes : List ℕ) (total : Option (List Instruction)) → length bytes ≡ 0 → whole_with_front front (instructions_in p n bytes) ≡ total → total ≡ Some front
+pub instructions_are_done : (p : ClassTree) (front : List Instruction) (n : ℕ) (bytes : List ℕ) (total : Option (List Instruction)) → length bytes ≡ 0 → whole_with_front front (instructions_in p n bytes) ≡ total → total ≡ Some front
 instructions_are_done p front n [] total le so_far = sym so_far ∙ ap (λ (ns : List Instruction). Some ns) (append-nil front)
 instructions_are_done p front n (b ∷ bytes) total le so_far = absurd (omega arith)
 
-pub instructions_are_cut : (p : ClassParts) (front : List Instruction) (count i : ℕ) (bytes : List ℕ) (total : Option (List Instruction)) → count ≤ i → 0 < length bytes → whole_with_front front (instructions_in p (count - i) bytes) ≡ total → total ≡ None
+pub instructions_are_cut : (p : ClassTree) (front : List Instruction) (count i : ℕ) (bytes : List ℕ) (total : Option (List Instruction)) → count ≤ i → 0 < length bytes → whole_with_front front (instructions_in p (count - i) bytes) ≡ total → total ≡ None
 instructions_are_cut p front count i [] total le some so_far = absurd (omega arith)
 instructions_are_cut p front count i (b ∷ bytes) total le some so_far =
     let k : count - i ≡ 0 = omega arith in

@@ -1,7 +1,6 @@
+pub mod ClassAnswers
+pub mod PartAnswers
 pub mod Outcomes
-pub mod Parts
-pub mod Texts
-pub mod Names
 pub mod Form
 pub mod Program
 pub mod FirstForm

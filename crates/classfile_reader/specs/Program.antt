@@ -1,27 +1,31 @@
--- The instructions of main (JVMS 6.5), and the program of a class's parts.
+-- The instructions of main (JVMS 6.5), and the program of a class tree.
 use Rattle.std.specs.Prelude.{ℕ, pos, zero, suc, ◌+◌, ◌-◌, ◌-ℤ◌, slice_get, slice_set, List, [], ◌∷◌, length, replicate, Bool, true, false, Option, Some, None, ◌==◌, ◌&&◌, nat_le, nat_lt, if◌then◌else◌, find, codes}
 use Rattle.std.specs.Int.{w8, w16, w32, cast_signed, is_in_range}
 use Rattle.std.specs.Option.{unwrap_or}
 use Rattle.jsa_base.specs.Reading.{◌>>=◌, Read, when, made, pair_at, u1_at, u2_at}
-use Rattle.classfile_reader.specs.declared.parts.PoolEntry.{PoolEntry}
-use Rattle.classfile_reader.specs.declared.parts.PoolEntry.TheVariants.{Unusable, Utf8, Integer, Class, Methodref, NameAndType}
-use Rattle.classfile_reader.specs.declared.parts.ClassParts.{ClassParts}
-use Rattle.classfile_reader.specs.declared.parts.CodeParts.{CodeParts}
+use Rattle.class_tree.specs.declared.constant_pool.PoolEntry.{PoolEntry}
+use Rattle.class_tree.specs.declared.constant_pool.PoolEntry.TheVariants.{Integer, Methodref, NameAndType}
+use Rattle.class_tree.specs.declared.tree.CodeTree.{CodeTree}
+use Rattle.class_tree.specs.declared.tree.ClassTree.{ClassTree}
+use Rattle.class_tree.specs.Trees.{is_text}
+use Rattle.class_tree.specs.WellFormed.{is_like_class}
 use Rattle.classfile_reader.specs.declared.program.Instruction.{Instruction}
 use Rattle.classfile_reader.specs.declared.program.Instruction.TheVariants.{Nop, Push, Load, Store, Pop, Dup, Add, Subtract, Multiply, Negate, ShiftLeft, ShiftRight, LogicalShiftRight, And, Or, Xor, Increment, ToByte, ToChar, ToShort, Put, Return}
 use Rattle.classfile_reader.specs.declared.program.Program.{Program}
-use Rattle.classfile_reader.specs.Texts.{same_class, is_member}
-use Rattle.classfile_reader.specs.Form.{declares_put, has_form, is_main, is_init, code_of, init_is_good}
+use Rattle.classfile_reader.specs.Form.{declares_put, has_form, is_main}
+
+abbrev pub is_put_in : List PoolEntry → Option PoolEntry → Bool
+is_put_in pool (Some (NameAndType name desc)) = is_text pool name (codes "put") && is_text pool desc (codes "(I)V")
+is_put_in pool _ = false
+
+-- whether the NameAndType at an index is that of put
+abbrev pub names_put : List PoolEntry → ℕ → Bool
+names_put pool index = is_put_in pool (slice_get pool index)
 
 -- whether a pool entry is a Methodref to the method put that this class declares
-abbrev pub is_own_put : ClassParts → Option PoolEntry → Bool
-is_own_put p (Some (Methodref class member)) = same_class p.pool class p.this && is_member p.pool member (codes "put") (codes "(I)V") && declares_put p.pool p.methods
-is_own_put p (Some Unusable) = false
-is_own_put p (Some (Utf8 bytes)) = false
-is_own_put p (Some (Integer bits)) = false
-is_own_put p (Some (Class name)) = false
-is_own_put p (Some (NameAndType name desc)) = false
-is_own_put p None = false
+abbrev pub is_own_put : ClassTree → Option PoolEntry → Bool
+is_own_put t (Some (Methodref class member)) = is_like_class t.pool class t.this && names_put t.pool member && declares_put t.pool t.methods
+is_own_put t _ = false
 
 -- the byte behind the opcode, signed
 abbrev pub byte_at : List ℕ → Read Instruction
@@ -34,18 +38,13 @@ short_at bytes = made (λ n. Push (cast_signed w16 n)) u2_at bytes
 -- the number of an Integer of the constant pool (4.4.4)
 abbrev pub constant_of : Option PoolEntry → Option Instruction
 constant_of (Some (Integer bits)) = Some (Push (cast_signed w32 bits))
-constant_of (Some Unusable) = None
-constant_of (Some (Utf8 bytes)) = None
-constant_of (Some (Class name)) = None
-constant_of (Some (Methodref class member)) = None
-constant_of (Some (NameAndType name desc)) = None
-constant_of None = None
+constant_of _ = None
 
 -- the Integer at the index behind the opcode, which is read in one byte or in two
-abbrev pub constant_at : ClassParts → (List ℕ → Read ℕ) → List ℕ → Read Instruction
-constant_at p read bytes = do
+abbrev pub constant_at : ClassTree → (List ℕ → Read ℕ) → List ℕ → Read Instruction
+constant_at t read bytes = do
   index ← read bytes
-  push ← constant_of (slice_get p.pool index.0)
+  push ← constant_of (slice_get t.pool index.0)
   Some (push, index.1)
 
 -- the local behind the opcode
@@ -57,10 +56,10 @@ abbrev pub increment_at : List ℕ → Read Instruction
 increment_at bytes = made (λ x. Increment x.0 (cast_signed w8 x.1)) (pair_at u1_at u1_at) bytes
 
 -- invokestatic: the index behind the opcode, of a Methodref
-abbrev pub invokestatic_at : ClassParts → List ℕ → Read Instruction
-invokestatic_at p bytes = do
+abbrev pub invokestatic_at : ClassTree → List ℕ → Read Instruction
+invokestatic_at t bytes = do
   index ← u2_at bytes
-  known ← when (is_own_put p (slice_get p.pool index.0))
+  known ← when (is_own_put t (slice_get t.pool index.0))
   Some (Put, index.1)
 
 -- ---- the instructions, one line each (JVMS 6.5)
@@ -91,16 +90,16 @@ plain_by opcode =
     else None
 
 -- an instruction whose operands stand behind the opcode
-unfoldable pub with_operands_by : ClassParts → ℕ → List ℕ → Read Instruction
-with_operands_by p opcode bytes =
+unfoldable pub with_operands_by : ClassTree → ℕ → List ℕ → Read Instruction
+with_operands_by t opcode bytes =
     if opcode == 0x10 then byte_at bytes  -- bipush
     else if opcode == 0x11 then short_at bytes  -- sipush
-    else if opcode == 0x12 then constant_at p u1_at bytes  -- ldc
-    else if opcode == 0x13 then constant_at p u2_at bytes  -- ldc_w
+    else if opcode == 0x12 then constant_at t u1_at bytes  -- ldc
+    else if opcode == 0x13 then constant_at t u2_at bytes  -- ldc_w
     else if opcode == 0x15 then local_at Load bytes  -- iload
     else if opcode == 0x36 then local_at Store bytes  -- istore
     else if opcode == 0x84 then increment_at bytes  -- iinc
-    else if opcode == 0xb8 then invokestatic_at p bytes  -- invokestatic
+    else if opcode == 0xb8 then invokestatic_at t bytes  -- invokestatic
     else None
 
 -- An opcode that is no instruction alone has operands behind it.
@@ -109,21 +108,21 @@ plain_or (Some instruction) bytes other = Some (instruction, bytes)
 plain_or None bytes other = other
 
 -- the instruction of an opcode, with the bytes after it
-abbrev pub instruction_by : ClassParts → ℕ → List ℕ → Read Instruction
-instruction_by p opcode bytes = plain_or (plain_by opcode) bytes (with_operands_by p opcode bytes)
+abbrev pub instruction_by : ClassTree → ℕ → List ℕ → Read Instruction
+instruction_by t opcode bytes = plain_or (plain_by opcode) bytes (with_operands_by t opcode bytes)
 
-unfoldable pub instruction_at : ClassParts → List ℕ → Read Instruction
-instruction_at p bytes = do
+unfoldable pub instruction_at : ClassTree → List ℕ → Read Instruction
+instruction_at t bytes = do
   opcode ← u1_at bytes
-  instruction_by p opcode.0 opcode.1
+  instruction_by t opcode.0 opcode.1
 
 -- instructions one after the other to the end of the bytes, and at most so many
-abbrev pub instructions_in : ClassParts → ℕ → List ℕ → Option (List Instruction)
-instructions_in p n [] = Some []
-instructions_in p zero (b ∷ bytes) = None
-instructions_in p (suc n) (b ∷ bytes) = do
-  first ← instruction_at p (b ∷ bytes)
-  others ← instructions_in p n first.1
+abbrev pub instructions_in : ClassTree → ℕ → List ℕ → Option (List Instruction)
+instructions_in t n [] = Some []
+instructions_in t zero (b ∷ bytes) = None
+instructions_in t (suc n) (b ∷ bytes) = do
+  first ← instruction_at t (b ∷ bytes)
+  others ← instructions_in t n first.1
   Some (first.0 ∷ others)
 
 -- ---- what the instructions need (4.9.2, 4.10)
@@ -194,18 +193,17 @@ abbrev pub is_tested : Program → Bool
 is_tested program = fits program.max_stack 0 (replicate program.max_locals false) program.instructions
 
 -- the program in the code of main
-unfoldable pub program_in : ClassParts → CodeParts → Option Program
-program_in p code = do
-  instructions ← instructions_in p (length code.bytes) code.bytes
+unfoldable pub program_in : ClassTree → CodeTree → Option Program
+program_in t code = do
+  instructions ← instructions_in t (length code.bytes) code.bytes
   program ← Some (record { max_stack = code.stack; max_locals = code.locals; instructions = instructions })
   tested ← when (is_tested program)
   Some program
 
--- the program of a class's parts, where they have the first form
-unfoldable pub program_of : ClassParts → Option Program
-program_of p = do
-  formed ← when (has_form p)
-  constructed ← when (init_is_good p.pool (find (is_init p.pool) p.methods))
-  main ← find (is_main p.pool) p.methods
-  code ← code_of p.pool main
-  program_in p code
+-- the program of a class tree, where it has the first form
+unfoldable pub program_of : ClassTree → Option Program
+program_of t = do
+  formed ← when (has_form t)
+  main ← find (is_main t.pool) t.methods
+  code ← main.code
+  program_in t code

@@ -4,37 +4,73 @@ ghost use Rattle.classfile_reader.specs.Outcomes.{Gives, Yields};
 ghost use Rattle.classfile_reader.specs.Program as program;
 ghost use Rattle.classfile_reader.specs.declared.program.Instruction.TheVariants as instruction;
 ghost use Rattle.jsa_base.specs.Reading.{u1_at, u2_at};
+ghost use Rattle.class_tree.specs.WellFormed.{is_like_class};
 
 use crate::fault::FormFault;
 use crate::form::declares_put;
-use crate::parts::{ClassParts, PoolEntry};
 use crate::program::Instruction;
-use crate::reading::{u1, u2};
-use crate::texts::{is_member, is_same_class};
+use class_tree::{ClassTree, Pool, PoolEntry};
 use jsa_base::Cursor;
 use sqlite_items::{Items, at};
 use std::alloc::Global;
 
-// Whether the entry at an index is a Methodref to the method `put` that the class declares.
-fn is_own_put(p: &ClassParts, index: u16) -> bool
-    ensures { result ≡ program.is_own_put p.now (slice_get p.now.pool index) }
+fn u1(cursor: &mut Cursor<'_>) -> Result<u8, FormFault>
+    ensures { Gives result cursor.new (u1_at cursor.old) }
 {
-    let pool = p.pool.as_slice();
-    match at(pool, index as usize) {
+    cursor.u1().ok_or(FormFault::NotFirstForm)
+}
+
+fn u2(cursor: &mut Cursor<'_>) -> Result<u16, FormFault>
+    ensures { Gives result cursor.new (u2_at cursor.old) }
+{
+    cursor.u2().ok_or(FormFault::NotFirstForm)
+}
+
+// Whether both indices name classes, and the same one.
+fn is_same_class(pool: &Pool, i: u16, j: u16) -> bool
+    ensures { result ≡ is_like_class pool.now i j }
+{
+    let Some(a) = pool.class_name(i) else {
+        return false;
+    };
+    let Some(b) = pool.class_name(j) else {
+        return false;
+    };
+    a == b
+}
+
+// Whether the NameAndType at an index is that of `put`.
+fn names_put(pool: &Pool, index: u16) -> bool
+    ensures { result ≡ program.names_put pool.now index }
+{
+    match at(pool.entries(), usize::from(index)) {
+        Some(PoolEntry::NameAndType(name, desc)) => {
+            pool.is_text(*name, b"put") && pool.is_text(*desc, b"(I)V")
+        }
+        _ => false,
+    }
+}
+
+// Whether the entry at an index is a Methodref to the method `put` that the class declares.
+fn is_own_put(t: &ClassTree, index: u16) -> bool
+    ensures { result ≡ program.is_own_put t.now (slice_get t.now.pool index) }
+{
+    let pool = &t.pool;
+    match at(pool.entries(), usize::from(index)) {
         Some(PoolEntry::Methodref(class, member)) => {
-            is_same_class(pool, *class, p.this)
-                && is_member(pool, *member, b"put", b"(I)V")
-                && declares_put(pool, p.methods.as_slice())
+            is_same_class(pool, *class, t.this)
+                && names_put(pool, *member)
+                && declares_put(pool, t.methods.as_slice())
         }
         _ => false,
     }
 }
 
 // The number of the Integer at an index.
-fn constant(p: &ClassParts, index: u16) -> Option<Instruction>
-    ensures { result ≡ program.constant_of (slice_get p.now.pool index) }
+fn constant(t: &ClassTree, index: u16) -> Option<Instruction>
+    ensures { result ≡ program.constant_of (slice_get t.now.pool index) }
 {
-    match at(p.pool.as_slice(), index as usize) {
+    match at(t.pool.entries(), usize::from(index)) {
         Some(PoolEntry::Integer(bits)) => Some(Instruction::Push(bits.cast_signed())),
         _ => None,
     }
@@ -54,18 +90,18 @@ fn short(cursor: &mut Cursor<'_>) -> Result<Instruction, FormFault>
     Ok(Instruction::Push(i32::from(short.cast_signed())))
 }
 
-fn constant_by_byte(p: &ClassParts, cursor: &mut Cursor<'_>) -> Result<Instruction, FormFault>
-    ensures { Gives result cursor.new (program.constant_at p.now u1_at cursor.old) }
+fn constant_by_byte(t: &ClassTree, cursor: &mut Cursor<'_>) -> Result<Instruction, FormFault>
+    ensures { Gives result cursor.new (program.constant_at t.now u1_at cursor.old) }
 {
     let index = u1(cursor)?;
-    constant(p, u16::from(index)).ok_or(FormFault::NotFirstForm)
+    constant(t, u16::from(index)).ok_or(FormFault::NotFirstForm)
 }
 
-fn constant_by_short(p: &ClassParts, cursor: &mut Cursor<'_>) -> Result<Instruction, FormFault>
-    ensures { Gives result cursor.new (program.constant_at p.now u2_at cursor.old) }
+fn constant_by_short(t: &ClassTree, cursor: &mut Cursor<'_>) -> Result<Instruction, FormFault>
+    ensures { Gives result cursor.new (program.constant_at t.now u2_at cursor.old) }
 {
     let index = u2(cursor)?;
-    constant(p, index).ok_or(FormFault::NotFirstForm)
+    constant(t, index).ok_or(FormFault::NotFirstForm)
 }
 
 fn load(cursor: &mut Cursor<'_>) -> Result<Instruction, FormFault>
@@ -90,11 +126,11 @@ fn increment(cursor: &mut Cursor<'_>) -> Result<Instruction, FormFault>
     Ok(Instruction::Increment(local, amount.cast_signed()))
 }
 
-fn invokestatic(p: &ClassParts, cursor: &mut Cursor<'_>) -> Result<Instruction, FormFault>
-    ensures { Gives result cursor.new (program.invokestatic_at p.now cursor.old) }
+fn invokestatic(t: &ClassTree, cursor: &mut Cursor<'_>) -> Result<Instruction, FormFault>
+    ensures { Gives result cursor.new (program.invokestatic_at t.now cursor.old) }
 {
     let index = u2(cursor)?;
-    if is_own_put(p, index) {
+    if is_own_put(t, index) {
         Ok(Instruction::Put)
     } else {
         Err(FormFault::NotFirstForm)
@@ -134,33 +170,33 @@ fn plain(opcode: u8) -> Option<Instruction>
 // An instruction whose operands stand behind its opcode.
 #[tactic(auto, unfolding(crate::specs::Program::with_operands_by))]
 fn with_operands(
-    p: &ClassParts,
+    t: &ClassTree,
     opcode: u8,
     cursor: &mut Cursor<'_>,
 ) -> Result<Instruction, FormFault>
-    ensures { Gives result cursor.new (program.with_operands_by p.now opcode cursor.old) }
+    ensures { Gives result cursor.new (program.with_operands_by t.now opcode cursor.old) }
 {
     match opcode {
         0x10 => byte(cursor),
         0x11 => short(cursor),
-        0x12 => constant_by_byte(p, cursor),
-        0x13 => constant_by_short(p, cursor),
+        0x12 => constant_by_byte(t, cursor),
+        0x13 => constant_by_short(t, cursor),
         0x15 => load(cursor),
         0x36 => store(cursor),
         0x84 => increment(cursor),
-        0xb8 => invokestatic(p, cursor),
+        0xb8 => invokestatic(t, cursor),
         _ => Err(FormFault::NotFirstForm),
     }
 }
 
 #[tactic(auto, unfolding(crate::specs::Program::instruction_at))]
-fn instruction(p: &ClassParts, cursor: &mut Cursor<'_>) -> Result<Instruction, FormFault>
-    ensures { Gives result cursor.new (program.instruction_at p.now cursor.old) }
+fn instruction(t: &ClassTree, cursor: &mut Cursor<'_>) -> Result<Instruction, FormFault>
+    ensures { Gives result cursor.new (program.instruction_at t.now cursor.old) }
 {
     let opcode = u1(cursor)?;
     match plain(opcode) {
         Some(instruction) => Ok(instruction),
-        None => with_operands(p, opcode, cursor),
+        None => with_operands(t, opcode, cursor),
     }
 }
 
@@ -168,10 +204,10 @@ fn instruction(p: &ClassParts, cursor: &mut Cursor<'_>) -> Result<Instruction, F
 #[tactic(auto, using(crate::proofs::Loop::instructions_go_on, crate::proofs::Loop::instructions_end, crate::proofs::Loop::instructions_are_done, crate::proofs::Loop::instructions_are_cut))]
 pub(crate) fn instructions(
     alloc: Global,
-    p: &ClassParts,
+    t: &ClassTree,
     code: &[u8],
 ) -> Result<Items<Instruction>, FormFault>
-    ensures exact { Yields result (program.instructions_in p.now (length code.now) code.now) }
+    ensures exact { Yields result (program.instructions_in t.now (length code.now) code.now) }
     // Each instruction has a byte at least.
     ensures few { IfOk result (λ xs. length xs ≤ length code.now) }
 {
@@ -181,7 +217,7 @@ pub(crate) fn instructions(
         if cursor.left() == 0 {
             return Ok(instructions);
         }
-        let next = instruction(p, &mut cursor)?;
+        let next = instruction(t, &mut cursor)?;
         instructions.push(next)?;
     }
     if cursor.left() == 0 {

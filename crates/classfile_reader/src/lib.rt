@@ -1,23 +1,26 @@
-//! Reads a class file of the first form, to the program of its `main`.
+//! Reads class files (JVMS 4), and of a class of the first form the program of its `main` and its name.
 #![tactic(auto)]
 
-mod code_reading;
+mod class_parts;
+mod class_reader;
+mod class_reading;
+#[cfg(test)]
+mod class_tests;
 mod fault;
 mod fitting;
 mod form;
 mod instructions;
 mod name_reading;
-mod names;
-mod parts;
 mod program;
 mod program_reading;
-mod reading;
+#[cfg(test)]
+mod test_classes;
 #[cfg(test)]
 mod tests;
-mod texts;
+mod tree_building;
 
+pub use class_reader::read_class;
 pub use fault::FormFault;
 pub use name_reading::{each_class_is_named, one_name, read_name};
-pub use parts::{Attribute, ClassParts, CodeParts, Handler, MAX_CODE, Member, PoolEntry};
-pub use program::{Instruction, Program};
-pub use program_reading::{code_is_spelled, one_program, read_program};
+pub use program::{Instruction, MAX_CODE, Program};
+pub use program_reading::{one_program, read_program};

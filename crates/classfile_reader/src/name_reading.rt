@@ -1,32 +1,25 @@
 //! Reads the name inside a class of the first form.
+ghost use Rattle.std.specs.Bool.{IsTrue};
+ghost use Rattle.class_tree.specs.WellFormed.{is_well_formed};
 ghost use Rattle.classfile_reader.specs.Outcomes.{Yields};
-ghost use Rattle.classfile_reader.specs.FirstForm.{HasName, OneName, EachClassIsNamed, name_of, name_at};
+ghost use Rattle.classfile_reader.specs.FirstForm.{HasName, OneName, EachClassIsNamed, name_of};
 
 use crate::fault::FormFault;
-use crate::parts::ClassParts;
-use crate::program_reading::{are_bytes, program_of};
-use crate::reading::whole_class;
-use crate::texts::class_name_at;
+use crate::program_reading::{class_of, program_of};
+use class_tree::ClassTree;
 use sqlite_items::Items;
 use std::alloc::Global;
 
 #[tactic(auto, unfolding(crate::specs::FirstForm::name_of))]
-fn name_of(alloc: Global, p: &ClassParts) -> Result<Items<u8>, FormFault>
-    ensures { Yields result (name_of p.now) }
+fn name_of(alloc: Global, t: &ClassTree) -> Result<Items<u8>, FormFault>
+    requires { IsTrue (is_well_formed t.now) }
+    ensures { Yields result (name_of t.now) }
 {
-    let _program = program_of(alloc, p)?;
-    match class_name_at(p.pool.as_slice(), p.this) {
+    let _program = program_of(alloc, t)?;
+    match t.pool.class_name(t.this) {
         Some(name) => Ok(Items::from_slice(alloc, name)?),
         None => Err(FormFault::NotFirstForm),
     }
-}
-
-#[tactic(auto, unfolding(crate::specs::FirstForm::name_at))]
-fn read(alloc: Global, bytes: &[u8]) -> Result<Items<u8>, FormFault>
-    ensures { Yields result (name_at bytes.now) }
-{
-    let parts = whole_class(alloc, bytes)?;
-    name_of(alloc, &parts)
 }
 
 /// The internal name of the class that the bytes are (JVMS 4.1, 4.2.1), where it has the first form.
@@ -35,8 +28,8 @@ fn read(alloc: Global, bytes: &[u8]) -> Result<Items<u8>, FormFault>
 pub fn read_name(alloc: Global, bytes: &[u8]) -> Result<Items<u8>, FormFault>
     ensures { HasName bytes.now result }
 {
-    are_bytes(bytes);
-    read(alloc, bytes)
+    let tree = class_of(alloc, bytes)?;
+    name_of(alloc, &tree)
 }
 
 /// A text has one name inside at most.

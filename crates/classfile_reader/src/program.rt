@@ -2,6 +2,9 @@
 
 use sqlite_items::Items;
 
+/// The greatest length of a method's code, in bytes (JVMS 4.7.3).
+pub const MAX_CODE: usize = 65_535;
+
 /// An instruction of `main`, by what it does (JVMS 6.5). A local is its index, and an amount is signed.
 #[derive(Clone, Copy, Debug, PartialEq, Eq)]
 pub enum Instruction {

@@ -1,30 +1,30 @@
 //! Reads the program of a class of the first form.
-ghost use Rattle.std.specs.Prelude.{◌≡◌, ◌≤◌, length, true, find, IfOk, IsOkUnless};
+ghost use Rattle.std.specs.Prelude.{◌≡◌, ◌≤◌, length, true, find, IfOk};
+ghost use Rattle.std.specs.Bool.{IsTrue};
 ghost use Rattle.std.specs.Option.{option_copied};
+ghost use Rattle.class_tree.specs.WellFormed.{is_well_formed};
 ghost use Rattle.classfile_reader.specs.Outcomes.{Yields};
 ghost use Rattle.classfile_reader.specs.Form as form;
 ghost use Rattle.classfile_reader.specs.Program as program;
-ghost use Rattle.classfile_reader.specs.FirstForm.{Accepts, OneProgram, CodeIsSpelled, program_at};
-ghost use Rattle.jsa_base.specs.Reading.{IsBytes};
+ghost use Rattle.classfile_reader.specs.FirstForm.{Accepts, OneProgram, IsTreeOf};
 
+use crate::class_reader::read_class;
 use crate::fault::FormFault;
 use crate::fitting::fits;
-use crate::form::{code_of, has_form, is_init, is_main};
+use crate::form::{has_form, is_main};
 use crate::instructions::instructions;
-use crate::parts::{ClassParts, CodeParts, MAX_CODE, Member, PoolEntry};
-use crate::program::Program;
-use crate::reading::whole_class;
-use jsa_base::Cursor;
+use crate::program::{MAX_CODE, Program};
+use class_tree::{ClassTree, CodeTree, FormatFault, MethodTree, Pool};
 use std::alloc::Global;
 
 #[tactic(auto, unfolding(crate::specs::Program::program_in))]
-fn program_in(alloc: Global, p: &ClassParts, code: &CodeParts) -> Result<Program, FormFault>
+fn program_in(alloc: Global, t: &ClassTree, code: &CodeTree) -> Result<Program, FormFault>
     requires { length code.now.bytes ≤ MAX_CODE }
-    ensures exact { Yields result (program.program_in p.now code.now) }
+    ensures exact { Yields result (program.program_in t.now code.now) }
     ensures tested { IfOk result (λ r. program.is_tested r ≡ true) }
     ensures few { IfOk result (λ r. length r.instructions ≤ MAX_CODE) }
 {
-    let instructions = instructions(alloc, p, code.bytes.as_slice())?;
+    let instructions = instructions(alloc, t, code.bytes.as_slice())?;
     let fit = fits(alloc, code.stack, code.locals, instructions.as_slice())?;
     if !fit {
         return Err(FormFault::NotFirstForm);
@@ -36,70 +36,42 @@ fn program_in(alloc: Global, p: &ClassParts, code: &CodeParts) -> Result<Program
     })
 }
 
-fn main_among<'a>(pool: &[PoolEntry], methods: &'a [Member]) -> Option<&'a Member>
+fn main_among<'a>(pool: &Pool, methods: &'a [MethodTree]) -> Option<&'a MethodTree>
     ensures { option_copied result ≡ find (form.is_main pool.now) methods.now }
 {
     methods.iter().find(|m| is_main(pool, m))
 }
 
-fn init_among<'a>(pool: &[PoolEntry], methods: &'a [Member]) -> Option<&'a Member>
-    ensures { option_copied result ≡ find (form.is_init pool.now) methods.now }
-{
-    methods.iter().find(|m| is_init(pool, m))
-}
-
-// Tests the code of the constructor, if there is one.
-fn init_is_good(alloc: Global, p: &ClassParts) -> Result<bool, FormFault>
-    ensures good { IfOk result (λ good. good ≡ form.init_is_good p.now.pool (find (form.is_init p.now.pool) p.now.methods)) }
-    ensures cause { IsOkUnless result FormFault.Memory }
-{
-    let pool = p.pool.as_slice();
-    match init_among(pool, p.methods.as_slice()) {
-        None => Ok(true),
-        Some(init) => match code_of(alloc, pool, init) {
-            Ok(_) => Ok(true),
-            Err(FormFault::NotFirstForm) => Ok(false),
-            Err(FormFault::Memory) => Err(FormFault::Memory),
-        },
-    }
-}
-
+/// The program of the tree of a class file, where it has the first form.
 #[tactic(auto, unfolding(crate::specs::Program::program_of))]
-pub(crate) fn program_of(alloc: Global, p: &ClassParts) -> Result<Program, FormFault>
-    ensures exact { Yields result (program.program_of p.now) }
+pub(crate) fn program_of(alloc: Global, t: &ClassTree) -> Result<Program, FormFault>
+    requires { IsTrue (is_well_formed t.now) }
+    ensures exact { Yields result (program.program_of t.now) }
     ensures tested { IfOk result (λ r. program.is_tested r ≡ true) }
     ensures few { IfOk result (λ r. length r.instructions ≤ MAX_CODE) }
 {
-    if !has_form(p) {
+    if !has_form(t) {
         return Err(FormFault::NotFirstForm);
     }
-    let good = init_is_good(alloc, p)?;
-    if !good {
-        return Err(FormFault::NotFirstForm);
-    }
-    let pool = p.pool.as_slice();
-    let Some(main) = main_among(pool, p.methods.as_slice()) else {
+    let Some(main) = main_among(&t.pool, t.methods.as_slice()) else {
         return Err(FormFault::NotFirstForm);
     };
-    let code = code_of(alloc, pool, main)?;
-    program_in(alloc, p, &code)
+    let Some(code) = &main.code else {
+        return Err(FormFault::NotFirstForm);
+    };
+    program_in(alloc, t, code)
 }
 
-#[tactic(auto, unfolding(crate::specs::FirstForm::program_at))]
-fn read(alloc: Global, bytes: &[u8]) -> Result<Program, FormFault>
-    ensures exact { Yields result (program_at bytes.now) }
-    ensures tested { IfOk result (λ r. program.is_tested r ≡ true) }
-    ensures few { IfOk result (λ r. length r.instructions ≤ MAX_CODE) }
+/// The tree of the class that the bytes are.
+pub(crate) fn class_of(alloc: Global, bytes: &[u8]) -> Result<ClassTree, FormFault>
+    ensures { IsTreeOf bytes.now result }
 {
-    let parts = whole_class(alloc, bytes)?;
-    program_of(alloc, &parts)
-}
-
-// What the type says.
-pub(crate) fn are_bytes(bytes: &[u8])
-    ensures { IsBytes bytes.now }
-{
-    Cursor::new(bytes).are_bytes();
+    match read_class(alloc, bytes) {
+        Ok(tree) => Ok(tree),
+        Err(FormatFault::NotClass) => Err(FormFault::NotFirstForm),
+        Err(FormatFault::Version(_, _)) => Err(FormFault::NotFirstForm),
+        Err(FormatFault::Memory) => Err(FormFault::Memory),
+    }
 }
 
 /// The program of the class that the bytes are (JVMS 4), where it has the first form.
@@ -111,16 +83,11 @@ pub fn read_program(alloc: Global, bytes: &[u8]) -> Result<Program, FormFault>
     ensures tested { IfOk result (λ r. program.is_tested r ≡ true) }
     ensures few { IfOk result (λ r. length r.instructions ≤ MAX_CODE) }
 {
-    are_bytes(bytes);
-    read(alloc, bytes)
+    let tree = class_of(alloc, bytes)?;
+    program_of(alloc, &tree)
 }
 
 /// A text has one program at most.
 pub fn one_program()
     ensures { OneProgram }
-{}
-
-/// The content of a Code attribute is read as those parts whose text it is.
-pub fn code_is_spelled()
-    ensures { CodeIsSpelled }
 {}

@@ -1,6 +1,6 @@
 // What no contract says: that a class of the first form is read where memory suffices.
 use crate::{
-    FormFault, Instruction, code_is_spelled, each_class_is_named, one_name, one_program, read_name,
+    FormFault, Instruction, each_class_is_named, one_name, one_program, read_class, read_name,
     read_program,
 };
 use std::alloc::Global;
@@ -32,7 +32,6 @@ fn a_sum_is_read(rt: HostRuntime) -> Result<(), Fail> {
     assert_eq!(rt; program.max_locals, 1);
     assert_eq!(rt; program.instructions.as_slice(), wanted.as_slice());
     one_program();
-    code_is_spelled();
     Ok(())
 }
 
@@ -310,6 +309,46 @@ fn ldc_w_has_an_index_of_two_bytes(rt: HostRuntime) -> Result<(), Fail> {
 fn each_opcode_is_read_and_its_operands_are(rt: HostRuntime) -> Result<(), Fail> {
     for line in CODES.lines() {
         reads_code(&rt, rt.alloc(), line)?;
+    }
+    Ok(())
+}
+
+// Class files of other forms: two places in the class that puts 42, the bytes that stand between them here, and what is
+// another then.
+static OTHERS: &str = "7 8: 32 = version 50
+7 8: 33 = version 51
+13 15: c3 a9 = a character of two bytes
+81 87: 01 00 04 70 75 74 73 = a native method of another name
+91 92: 4a = a native method of a long
+99 100: 0b = an InterfaceMethodref
+105 106: 31 = a final class
+108 110: 00 02 = a superclass that isn't java/lang/Object
+110 112: 00 01 00 04 = an interface
+116 118: 00 19 = a main that is final
+118 120: 00 08 = no main
+129 148: 1c 00 02 00 01 00 00 00 08 10 28 05 60 b8 00 0b b1 00 01 00 00 00 01 00 00 00 00 = a handler
+151 152: 19 = a put that is final";
+
+fn is_other(rt: &impl Abort, alloc: Global, line: &str) -> Result<(), Fail> {
+    let (places, rest) = line.split_once(": ").ok_or("no places")?;
+    let (from, to) = places.split_once(" ").ok_or("one place")?;
+    let (between, _) = rest.split_once(" = ").ok_or("no reason")?;
+    let from = from.parse::<usize>()?;
+    let to = to.parse::<usize>()?;
+    assert!(rt; from <= to && to <= PUTS_42.len());
+    let mut bytes = Vec::from_slice(alloc, &PUTS_42[..from])?;
+    bytes.extend_from_slice(&bytes_of(alloc, between)?)?;
+    bytes.extend_from_slice(&PUTS_42[to..])?;
+    assert!(rt; read_class(alloc, &bytes).is_ok(), "{line}");
+    let read = read_program(alloc, &bytes);
+    assert_eq!(rt; read.err(), Some(FormFault::NotFirstForm), "{line}");
+    Ok(())
+}
+
+#[test]
+fn a_class_file_of_another_form_is_refused(rt: HostRuntime) -> Result<(), Fail> {
+    for line in OTHERS.lines() {
+        is_other(&rt, rt.alloc(), line)?;
     }
     Ok(())
 }

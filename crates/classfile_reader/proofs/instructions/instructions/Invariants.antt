@@ -5,6 +5,6 @@ use Rattle.classfile_reader.proofs.instructions.instructions.Given as goal
 
 abbrev pub invariant-loop : goal.invariant-loop
 invariant-loop l = record {
-  read : whole_with_front l.instructions (instructions_in l.p (length l.code - l.counter) l.cursor) ≡ instructions_in l.p (length l.code) l.code;
+  read : whole_with_front l.instructions (instructions_in l.t (length l.code - l.counter) l.cursor) ≡ instructions_in l.t (length l.code) l.code;
   few : length l.instructions ≤ l.counter;
 }

@@ -1,0 +1,8 @@
+use Rattle.std.proofs.Common.{◌≡◌, ◌-◌}
+use Rattle.jsa_base.specs.Reading.{times}
+use Rattle.class_tree.specs.ClassReading.{handler_at}
+use Rattle.classfile_reader.proofs.PartLoops.{with_front}
+use Rattle.classfile_reader.proofs.class_reading.some_handlers.Given as goal
+
+abbrev pub invariant-loop : goal.invariant-loop
+invariant-loop l = with_front l.handlers (times handler_at (l.count - l.counter) l.cursor) ≡ times handler_at l.count l.fn.cursor
