@@ -12,7 +12,7 @@ use Rattle.class_tree.specs.declared.constant_pool.PoolEntry.{PoolEntry}
 use Rattle.class_tree.specs.declared.constant_pool.PoolEntry.TheVariants.{Class}
 use Rattle.class_tree.specs.Links.{text_in, holds}
 use Rattle.class_tree.specs.TextPlaces.{place_from, place_in, place_at, class_key, class_key_in, member_key, both, is_same_key, class_keys, member_keys}
-use Rattle.class_tree.specs.WellFormed.{text_of, class_name_in, are_equal, is_like_class, is_like_member, are_distinct, Member}
+use Rattle.class_tree.specs.WellFormed.{text_of, class_name_in, are_equal, is_like_class, is_like_member, are_distinct, NameAndDescriptor}
 use Rattle.class_tree.proofs.DistinctKeys.{by_keys}
 
 -- ---- a text that is there has a place
@@ -129,7 +129,7 @@ pairs (Some a) (Some b) None d = refl
 pairs (Some a) None c d = and-false (is_same_key nat_cmp (Some a) c)
 pairs None b c d = refl
 
-pub same_member : (pool : List PoolEntry) (m n : Member) → is_like_member pool m n ≡ is_same_key pair_cmp (member_key pool m) (member_key pool n)
+pub same_member : (pool : List PoolEntry) (m n : NameAndDescriptor) → is_like_member pool m n ≡ is_same_key pair_cmp (member_key pool m) (member_key pool n)
 same_member pool m n = rw (same_text pool m.0 n.0, same_text pool m.1 n.1) (pairs (place_at pool m.0) (place_at pool m.1) (place_at pool n.0) (place_at pool n.1))
 
 -- ---- distinct by their keys
@@ -138,7 +138,7 @@ pub classes_by_keys : (pool : List PoolEntry) (classes : List ℕ) → are_disti
 unfolding class_keys
 classes_by_keys pool classes = by_keys nat_cmp (is_like_class pool) (class_key pool) classes (same_class pool)
 
-pub members_by_keys : {A : Type 0} (pool : List PoolEntry) (member : A → Member) (xs : List A) → are_distinct (is_like_member pool) (map member xs) ≡ are_distinct (is_same_key pair_cmp) (member_keys pool member xs)
+pub members_by_keys : {A : Type 0} (pool : List PoolEntry) (member : A → NameAndDescriptor) (xs : List A) → are_distinct (is_like_member pool) (map member xs) ≡ are_distinct (is_same_key pair_cmp) (member_keys pool member xs)
 unfolding member_keys
 members_by_keys pool member xs =
     by_keys pair_cmp (is_like_member pool) (member_key pool) (map member xs) (same_member pool)

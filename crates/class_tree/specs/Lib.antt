@@ -11,3 +11,4 @@ pub mod Trees
 pub mod WellFormed
 pub mod TextPlaces
 pub mod Spells
+pub mod Encoded

@@ -10,7 +10,7 @@ use Rattle.std.specs.Str.{bytes_eq}
 use Rattle.class_tree.specs.declared.constant_pool.PoolEntry.{PoolEntry}
 use Rattle.class_tree.specs.declared.constant_pool.PoolEntry.TheVariants.{Class}
 use Rattle.class_tree.specs.Links.{text_in, holds}
-use Rattle.class_tree.specs.WellFormed.{text_of, Member}
+use Rattle.class_tree.specs.WellFormed.{text_of, NameAndDescriptor}
 
 -- ---- places
 
@@ -58,13 +58,13 @@ both (Some a) (Some b) = Some (a, b)
 both _ _ = None
 
 -- the places of a member's name and of its descriptor, where it has both
-abbrev pub member_key : List PoolEntry → Member → Option (ℕ × ℕ)
+abbrev pub member_key : List PoolEntry → NameAndDescriptor → Option (ℕ × ℕ)
 member_key pool m = both (place_at pool m.0) (place_at pool m.1)
 
 unfoldable pub class_keys : List PoolEntry → List ℕ → List (Option ℕ)
 class_keys pool classes = map (class_key pool) classes
 
-unfoldable pub member_keys : {A : Type 0} → List PoolEntry → (A → Member) → List A → List (Option (ℕ × ℕ))
+unfoldable pub member_keys : {A : Type 0} → List PoolEntry → (A → NameAndDescriptor) → List A → List (Option (ℕ × ℕ))
 member_keys pool member xs = map (λ x. member_key pool (member x)) xs
 
 -- a key is there, and was seen

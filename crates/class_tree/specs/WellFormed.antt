@@ -55,16 +55,16 @@ abbrev pub is_like_class : List PoolEntry → ℕ → ℕ → Bool
 is_like_class pool i j = are_equal (class_name pool i) (class_name pool j)
 
 -- the index of a member's name and that of its descriptor
-abbrev pub Member : Type 0
-Member = ℕ × ℕ
+abbrev pub NameAndDescriptor : Type 0
+NameAndDescriptor = ℕ × ℕ
 
-abbrev pub is_like_member : List PoolEntry → Member → Member → Bool
+abbrev pub is_like_member : List PoolEntry → NameAndDescriptor → NameAndDescriptor → Bool
 is_like_member pool m n = are_equal (text_of pool m.0) (text_of pool n.0) && are_equal (text_of pool m.1) (text_of pool n.1)
 
-abbrev pub field_member : FieldTree → Member
+abbrev pub field_member : FieldTree → NameAndDescriptor
 field_member f = (f.name, f.desc)
 
-abbrev pub method_member : MethodTree → Member
+abbrev pub method_member : MethodTree → NameAndDescriptor
 method_member m = (m.name, m.desc)
 
 -- ---- fields (4.5)

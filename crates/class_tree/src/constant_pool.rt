@@ -2,6 +2,7 @@
 ghost use Rattle.std.specs.Prelude.{◌≡◌};
 ghost use Rattle.std.specs.Option.{option_copied};
 ghost use Rattle.class_tree.specs.WellFormed.{text_of, class_name};
+ghost use Rattle.class_tree.specs.Links as links;
 ghost use Rattle.class_tree.specs.Trees as trees;
 
 use sqlite_items::{Items, at};
@@ -75,6 +76,13 @@ impl Pool {
             Some(PoolEntry::Utf8(text)) => Some(text.as_slice()),
             _ => None,
         }
+    }
+
+    /// Whether a Utf8 stands at an index.
+    pub fn is_utf8(&self, index: u16) -> bool
+        ensures { result ≡ links.is_utf8 self.now index }
+    {
+        self.text(index).is_some()
     }
 
     /// Whether a Utf8 with this text stands at an index.

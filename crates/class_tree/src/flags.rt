@@ -2,7 +2,8 @@
 ghost use Rattle.std.specs.Prelude.{◌≡◌};
 ghost use Rattle.class_tree.specs.Flags.{has, has_all, has_none, is_interface, has_one_access, are_class_flags, are_field_flags, suits_abstract, suits_interface, are_method_flags, are_init_flags};
 
-pub(crate) fn has(flags: u16, bit: u16) -> bool
+/// Whether the flag with this bit is set.
+pub fn has_flag(flags: u16, bit: u16) -> bool
     ensures { result ≡ has flags bit }
 {
     flags & bit != 0
@@ -23,7 +24,7 @@ pub(crate) fn has_none(flags: u16, bits: u16) -> bool
 pub(crate) fn is_interface(flags: u16) -> bool
     ensures { result ≡ is_interface flags }
 {
-    has(flags, 0x0200)
+    has_flag(flags, 0x0200)
 }
 
 fn has_one_access(flags: u16) -> bool
@@ -38,7 +39,7 @@ pub(crate) fn are_class_flags(flags: u16) -> bool
     ensures { result ≡ are_class_flags flags }
 {
     if is_interface(flags) {
-        has(flags, 0x0400) && has_none(flags, 0x0010)
+        has_flag(flags, 0x0400) && has_none(flags, 0x0010)
     } else {
         !has_all(flags, 0x0410) && has_none(flags, 0x2000)
     }
@@ -54,7 +55,7 @@ pub(crate) fn are_field_flags(in_interface: bool, flags: u16) -> bool
 fn suits_abstract(flags: u16) -> bool
     ensures { result ≡ suits_abstract flags }
 {
-    !has(flags, 0x0400) || has_none(flags, 0x093a)
+    !has_flag(flags, 0x0400) || has_none(flags, 0x093a)
 }
 
 fn suits_interface(major: u16, flags: u16) -> bool

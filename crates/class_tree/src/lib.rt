@@ -12,17 +12,23 @@ mod pool_reading;
 mod reading;
 mod tested_pool;
 mod tested_tree;
+mod text_kinds;
 mod text_places;
 mod tree;
 mod well_formed;
 
 pub use constant_pool::{Pool, PoolEntry};
 pub use fault::FormatFault;
+pub use flags::has_flag;
 pub use laws::{
     codes_are_spelled, one_tree, other_versions_have_no_tree, trees_are_spelled,
     versions_are_written,
 };
 pub use pool_reading::{one_pool, read_pool};
+pub use text_kinds::{
+    is_class_or_array, is_clinit, is_declared_name, is_field_type, is_init, is_method_type,
+    returns_void,
+};
 pub use tree::{ClassTree, CodeTree, FieldTree, Handler, MethodTree};
 pub use well_formed::is_well_formed;
 

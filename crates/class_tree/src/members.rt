@@ -5,7 +5,7 @@ ghost use Rattle.class_tree.specs.Flags as flags;
 ghost use Rattle.class_tree.specs.WellFormed as well_formed;
 
 use crate::flags::{
-    are_field_flags, are_init_flags, are_method_flags, has, has_none, is_interface,
+    are_field_flags, are_init_flags, are_method_flags, has_flag, has_none, is_interface,
 };
 use crate::tested_pool::TestedPool;
 use crate::tested_tree::TestedTree;
@@ -16,7 +16,8 @@ use crate::tree::{CodeTree, FieldTree, Handler, MethodTree};
 fn has_its_constant(pool: &TestedPool<'_>, field: &FieldTree) -> bool
     ensures { result ≡ well_formed.has_its_constant pool.now field.now }
 {
-    field.value == 0 || (has(field.flags, 0x0008) && pool.is_constant_for(field.desc, field.value))
+    field.value == 0
+        || (has_flag(field.flags, 0x0008) && pool.is_constant_for(field.desc, field.value))
 }
 
 pub(crate) fn is_field_declaration(tree: &TestedTree<'_>, field: &FieldTree) -> bool
@@ -34,7 +35,7 @@ pub(crate) fn is_field_declaration(tree: &TestedTree<'_>, field: &FieldTree) -> 
 fn this_slots(method: &MethodTree) -> u8
     ensures { result ≡ well_formed.this_slots method.now }
 {
-    if has(method.flags, 0x0008) { 0 } else { 1 }
+    if has_flag(method.flags, 0x0008) { 0 } else { 1 }
 }
 
 fn takes_within(pool: &TestedPool<'_>, method: &MethodTree, room: u16) -> bool
@@ -49,7 +50,7 @@ fn takes_within(pool: &TestedPool<'_>, method: &MethodTree, room: u16) -> bool
 fn is_initializer(pool: &TestedPool<'_>, method: &MethodTree) -> bool
     ensures { result ≡ well_formed.is_initializer pool.now method.now }
 {
-    has(method.flags, 0x0008) && pool.is_plain_void(method.desc)
+    has_flag(method.flags, 0x0008) && pool.is_plain_void(method.desc)
 }
 
 fn is_constructor(tree: &TestedTree<'_>, method: &MethodTree) -> bool

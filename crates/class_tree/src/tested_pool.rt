@@ -8,7 +8,10 @@ ghost use Rattle.class_tree.specs.Trees as trees;
 ghost use Rattle.class_tree.specs.WellFormed as well_formed;
 
 use crate::constant_pool::PoolEntry;
-use jsa_names::{field_type, is_class_name, is_member_name, is_method_name, method_type};
+use crate::text_kinds::{
+    is_class_or_array, is_declared_name, is_field_type, is_init, is_method_type, returns_void,
+};
+use jsa_names::{is_class_name, is_member_name, is_method_name, method_type};
 use sqlite_items::at;
 use std::alloc::{AllocError, Global};
 use std::marker::Model;
@@ -28,60 +31,6 @@ struct TextForms {
     returns_void: bool,
     // The slots that the parameters of a method descriptor take, `this` aside.
     parameter_slots: Option<u8>,
-}
-
-fn begins_array(text: &[u8]) -> bool
-    ensures { result ≡ links.begins_array text.now }
-{
-    let [b, ..] = text else {
-        return false;
-    };
-    *b == b'['
-}
-
-fn is_field_type(text: &[u8]) -> bool
-    ensures { result ≡ links.is_field_type text.now }
-{
-    field_type(text).is_some()
-}
-
-fn is_class_or_array(text: &[u8]) -> bool
-    ensures { result ≡ links.is_class_or_array text.now }
-{
-    is_class_name(text) || (begins_array(text) && is_field_type(text))
-}
-
-fn is_method_type(text: &[u8]) -> bool
-    ensures { result ≡ links.is_method_type text.now }
-{
-    method_type(text).is_some()
-}
-
-fn is_init(text: &[u8]) -> bool
-    ensures { result ≡ links.is_init text.now }
-{
-    text == b"<init>".as_slice()
-}
-
-fn returns_void(text: &[u8]) -> bool
-    ensures { result ≡ links.returns_void text.now }
-{
-    match method_type(text) {
-        Some(method) => method.result().is_none(),
-        None => false,
-    }
-}
-
-fn is_clinit(text: &[u8]) -> bool
-    ensures { result ≡ well_formed.is_clinit text.now }
-{
-    text == b"<clinit>".as_slice()
-}
-
-fn is_declared_name(text: &[u8]) -> bool
-    ensures { result ≡ well_formed.is_declared_name text.now }
-{
-    is_method_name(text) || is_clinit(text)
 }
 
 fn parameter_slots(text: &[u8]) -> Option<u8>

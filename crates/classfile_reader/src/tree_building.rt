@@ -2,29 +2,15 @@
 ghost use Rattle.std.specs.Prelude.{◌≡◌, Some};
 ghost use Rattle.std.specs.Option.{option_map};
 ghost use Rattle.jsa_base.specs.Reading.{u2_at, all_read};
-ghost use Rattle.class_tree.specs.Flags.{has};
-ghost use Rattle.class_tree.specs.Links as links;
 ghost use Rattle.class_tree.specs.Trees as trees;
 ghost use Rattle.classfile_reader.specs.PartAnswers.{Builds, kept};
 
 use crate::class_parts::{Attribute, ClassParts, CodeParts, Member};
 use crate::class_reading::{u2, whole_code};
-use class_tree::{ClassTree, CodeTree, FieldTree, FormatFault, MethodTree, Pool};
+use class_tree::{ClassTree, CodeTree, FieldTree, FormatFault, MethodTree, Pool, has_flag};
 use jsa_base::Cursor;
 use sqlite_items::Items;
 use std::alloc::Global;
-
-fn is_utf8(pool: &Pool, index: u16) -> bool
-    ensures { result ≡ links.is_utf8 pool.now index }
-{
-    pool.text(index).is_some()
-}
-
-fn has_flag(flags: u16, bit: u16) -> bool
-    ensures { result ≡ has flags bit }
-{
-    flags & bit != 0
-}
 
 // Whether each attribute has a name, also where it is skipped.
 #[tactic(auto, unfolding(class_tree::specs::Trees::have_names))]
@@ -33,7 +19,7 @@ fn have_names(pool: &Pool, attributes: &[Attribute<'_>]) -> bool
 {
     attributes
         .iter()
-        .all(|attribute| is_utf8(pool, attribute.name))
+        .all(|attribute| pool.is_utf8(attribute.name))
 }
 
 // What is found after one more attribute, which may have the name that is looked for.
