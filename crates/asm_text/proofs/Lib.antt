@@ -1,0 +1,9 @@
+mod Pieces
+mod Fronts
+mod Numerals
+mod LineSteps
+mod Each
+mod KeyOrder
+mod Names
+mod TokenLaws
+mod PathWords

@@ -1,0 +1,9 @@
+pub mod Outcome
+pub mod Lines
+pub mod Numbers
+pub mod Quoted
+pub mod Mnemonics
+pub mod Words
+pub mod Operations
+pub mod Grammar
+pub mod Laws
