@@ -1,0 +1,4 @@
+pub mod Built
+pub mod Grown
+pub mod Places
+pub mod Positions

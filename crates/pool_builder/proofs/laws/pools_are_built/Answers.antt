@@ -1,0 +1,5 @@
+use Rattle.pool_builder.proofs.Built.{pools_are_built}
+use Rattle.pool_builder.proofs.laws.pools_are_built.Goals as goal
+
+pub returns : goal.returns
+returns c = pools_are_built

@@ -1,0 +1,11 @@
+//! A constant pool that grows as its entries are needed (JVMS 4.4).
+#![tactic(auto)]
+
+mod builder;
+mod laws;
+
+pub use builder::PoolBuilder;
+pub use laws::{pools_are_built, pools_grow};
+
+#[cfg(test)]
+mod tests;
