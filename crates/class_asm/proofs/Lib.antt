@@ -1,0 +1,13 @@
+pub mod MapLabels
+pub mod Fronts
+pub mod Alone
+pub mod Long
+pub mod Sizes
+pub mod Standing
+pub mod Keeping
+pub mod Kept
+pub mod BuiltTrees
+pub mod Formed
+pub mod Indices
+pub mod Decoding
+pub mod Named

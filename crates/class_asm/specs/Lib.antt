@@ -1,0 +1,6 @@
+pub mod Labels
+pub mod Code
+pub mod Frames
+pub mod Drafts
+pub mod Assembly
+pub mod Laws

@@ -1,0 +1,135 @@
+//! A class as far as its lines were read.
+ghost use Rattle.std.specs.Prelude.{◌≡◌, Some};
+ghost use Rattle.asm_text.specs.Outcome.{Gives, Yields, Does};
+ghost use Rattle.class_asm.specs.Drafts as spec;
+
+use asm_text::{ClassLine, Constant, FieldLine, LineFault};
+use class_tree::{ClassTree, FieldTree, MethodTree};
+use pool_builder::PoolBuilder;
+use sqlite_items::Items;
+use std::alloc::Global;
+
+/// A class with the members so far.
+#[derive(Drop)]
+pub struct ClassDraft {
+    pub major: u16,
+    pub flags: u16,
+    pub pool: PoolBuilder,
+    pub this: u16,
+    pub sup: u16,
+    pub interfaces: Items<u16>,
+    pub fields: Items<FieldTree>,
+    pub methods: Items<MethodTree>,
+}
+
+/// The index of a class, or 0 where none is named.
+pub fn optional_class(
+    alloc: Global,
+    name: &Option<Items<u8>>,
+    pool: &mut PoolBuilder,
+) -> Result<u16, LineFault>
+    ensures { Gives (λ i. i) result pool.new (spec.optional_class_needed name.now pool.old) }
+{
+    match name {
+        Some(name) => pool.class(alloc, name.as_slice()),
+        None => Ok(0),
+    }
+}
+
+#[tactic(auto, unfolding(crate::specs::Drafts::classes_needed))]
+fn classes(
+    alloc: Global,
+    names: &[Items<u8>],
+    pool: &mut PoolBuilder,
+) -> Result<Items<u16>, LineFault>
+    ensures { Gives (λ is. is) result pool.new (spec.classes_needed names.now pool.old) }
+{
+    let mut indices = Items::new(alloc);
+    let mut rest = names;
+    loop {
+        let [name, more @ ..] = rest else {
+            return Ok(indices);
+        };
+        let index = pool.class(alloc, name.as_slice())?;
+        indices.push(index)?;
+        rest = more;
+    }
+}
+
+/// The class of a class line, of version 52. `Outside` comes where the pool has no room for what it needs, or it has more
+/// than 65,535 superinterfaces.
+#[tactic(auto, unfolding(crate::specs::Drafts::class_begun))]
+pub fn begin_class(alloc: Global, line: &ClassLine) -> Result<ClassDraft, LineFault>
+    ensures { Yields (λ c. c) result (spec.class_begun line.now) }
+{
+    if line.interfaces.len() > 65535 {
+        return Err(LineFault::Outside);
+    }
+    let mut pool = PoolBuilder::new(alloc)?;
+    let this = pool.class(alloc, line.name.as_slice())?;
+    let sup = optional_class(alloc, &line.sup, &mut pool)?;
+    let interfaces = classes(alloc, line.interfaces.as_slice(), &mut pool)?;
+    Ok(ClassDraft {
+        major: 52,
+        flags: line.flags,
+        pool,
+        this,
+        sup,
+        interfaces,
+        fields: Items::new(alloc),
+        methods: Items::new(alloc),
+    })
+}
+
+// The index of the value of a field, or 0 for none.
+#[tactic(auto, unfolding(crate::specs::Drafts::value_needed))]
+fn value(alloc: Global, value: &Option<Constant>, pool: &mut PoolBuilder) -> Result<u16, LineFault>
+    ensures { Gives (λ i. i) result pool.new (spec.value_needed value.now pool.old) }
+{
+    match value {
+        Some(value) => {
+            pool.text(alloc, b"ConstantValue")?;
+            pool.constant(alloc, value)
+        }
+        None => Ok(0),
+    }
+}
+
+impl ClassDraft {
+    /// Adds the field of a field line. `Outside` comes where the pool has no room for what it needs, or the class has 65,535
+    /// fields.
+    #[tactic(auto, unfolding(crate::specs::Drafts::field_added))]
+    pub fn add_field(&mut self, alloc: Global, line: &FieldLine) -> Result<(), LineFault>
+        ensures { Does result self.new (spec.field_added line.now self.old) }
+    {
+        if self.fields.len() >= 65535 {
+            return Err(LineFault::Outside);
+        }
+        let name = self.pool.text(alloc, line.name.as_slice())?;
+        let desc = self.pool.text(alloc, line.desc.as_slice())?;
+        let value = value(alloc, &line.value, &mut self.pool)?;
+        self.fields.push(FieldTree {
+            flags: line.flags,
+            name,
+            desc,
+            value,
+        })?;
+        Ok(())
+    }
+
+    /// The tree of the class with the members so far.
+    pub fn into_tree(self) -> ClassTree
+        ensures { result ≡ spec.tree_of self }
+    {
+        ClassTree {
+            major: self.major,
+            flags: self.flags,
+            pool: self.pool.into_pool(),
+            this: self.this,
+            sup: self.sup,
+            interfaces: self.interfaces,
+            fields: self.fields,
+            methods: self.methods,
+        }
+    }
+}

@@ -1,0 +1,320 @@
+//! A method and its code as far as their lines were read.
+ghost use Rattle.std.specs.Prelude.{◌≡◌, ◌<◌, ◌^◌, min, IfOk};
+ghost use Rattle.std.specs.Option.{option_map};
+ghost use Rattle.asm_text.specs.Outcome.{Gives, Yields, Does};
+ghost use Rattle.class_asm.specs.Drafts as spec;
+
+use crate::class_draft::{ClassDraft, optional_class};
+use crate::frames::{delta, frame_text, put_u2, short_place};
+use crate::labels::Labels;
+use crate::resolving::emit;
+use asm_text::{CatchLine, CodeLine, FrameLine, LineFault, MethodLine, Operation};
+use class_tree::{CodeTree, Handler, MethodTree};
+use pool_builder::PoolBuilder;
+use sqlite_items::Items;
+use std::alloc::{AllocError, Global};
+
+/// A method behind its method line.
+#[derive(Drop)]
+pub struct MethodDraft {
+    pub class: ClassDraft,
+    pub flags: u16,
+    pub name: u16,
+    pub desc: u16,
+}
+
+/// The frames so far: their number, the place of the last, and their texts.
+#[derive(Drop)]
+pub struct FrameTable {
+    pub count: u16,
+    pub last: Option<u16>,
+    pub text: Items<u8>,
+}
+
+/// A code with the lines so far.
+#[derive(Drop)]
+pub struct CodeDraft {
+    pub method: MethodDraft,
+    /// `max_stack`, a long or a double counting two.
+    pub stack: u16,
+    /// `max_locals`, a long or a double taking two.
+    pub locals: u16,
+    /// The instructions.
+    pub bytes: Items<u8>,
+    pub handlers: Items<Handler>,
+    pub frames: Option<FrameTable>,
+    /// All labels of the code.
+    pub labels: Labels,
+    /// How many of them stand in the lines so far.
+    pub passed: usize,
+}
+
+/// The method of a method line. `Outside` comes where the pool has no room for what it needs, or the class has 65,535
+/// methods.
+#[tactic(auto, unfolding(crate::specs::Drafts::method_begun))]
+pub fn begin_method(
+    alloc: Global,
+    line: &MethodLine,
+    class: ClassDraft,
+) -> Result<MethodDraft, LineFault>
+    ensures { Yields (λ m. m) result (spec.method_begun line.now class) }
+{
+    let mut class = class;
+    if class.methods.len() >= 65535 {
+        return Err(LineFault::Outside);
+    }
+    let name = class.pool.text(alloc, line.name.as_slice())?;
+    let desc = class.pool.text(alloc, line.desc.as_slice())?;
+    Ok(MethodDraft {
+        class,
+        flags: line.flags,
+        name,
+        desc,
+    })
+}
+
+/// The class with the method, which has this code.
+pub fn close_method(method: MethodDraft, code: Option<CodeTree>) -> Result<ClassDraft, AllocError>
+    ensures { IfOk result (λ c. c ≡ spec.method_closed method code) }
+{
+    let MethodDraft {
+        mut class,
+        flags,
+        name,
+        desc,
+    } = method;
+    class.methods.push(MethodTree {
+        flags,
+        name,
+        desc,
+        code,
+    })?;
+    Ok(class)
+}
+
+/// The code of a code line, with the labels of the lines that follow. `Outside` comes where the pool has no room for the
+/// attribute's name.
+#[tactic(auto, unfolding(crate::specs::Drafts::code_begun))]
+pub fn begin_code(
+    alloc: Global,
+    line: &CodeLine,
+    labels: Labels,
+    method: MethodDraft,
+) -> Result<CodeDraft, LineFault>
+    ensures { Yields (λ c. c) result (spec.code_begun line.now labels method) }
+{
+    let mut method = method;
+    method.class.pool.text(alloc, b"Code")?;
+    Ok(CodeDraft {
+        method,
+        stack: line.stack,
+        locals: line.locals,
+        bytes: Items::new(alloc),
+        handlers: Items::new(alloc),
+        frames: None,
+        labels,
+        passed: 0,
+    })
+}
+
+// The table of the frames so far, whose name is needed where the first frame stands.
+#[tactic(auto, unfolding(crate::specs::Drafts::table_begun))]
+fn begin_table(
+    alloc: Global,
+    frames: Option<FrameTable>,
+    pool: &mut PoolBuilder,
+) -> Result<FrameTable, LineFault>
+    ensures { Gives (λ t. t) result pool.new (spec.table_begun frames pool.old) }
+{
+    if let Some(table) = frames {
+        return Ok(table);
+    }
+    pool.text(alloc, b"StackMapTable")?;
+    Ok(FrameTable {
+        count: 0,
+        last: None,
+        text: Items::new(alloc),
+    })
+}
+
+// The content of a StackMapTable (JVMS 4.7.4).
+fn table_content(alloc: Global, table: FrameTable) -> Result<Items<u8>, AllocError>
+    ensures { IfOk result (λ t. t ≡ spec.table_content table) }
+{
+    let mut content = Items::new(alloc);
+    put_u2(&mut content, table.count)?;
+    content.append(table.text)?;
+    Ok(content)
+}
+
+fn optional_content(
+    alloc: Global,
+    frames: Option<FrameTable>,
+) -> Result<Option<Items<u8>>, AllocError>
+    ensures { IfOk result (λ t. t ≡ option_map spec.table_content frames) }
+{
+    match frames {
+        Some(table) => Ok(Some(table_content(alloc, table)?)),
+        None => Ok(None),
+    }
+}
+
+// How many bytes a StackMapTable takes, counted up to 2^32.
+fn table_size(frames: &Option<FrameTable>) -> usize
+    ensures value { min result 0x1_0000_0000 ≡ min (spec.table_size frames.now) 0x1_0000_0000 }
+    ensures small { result < 2 ^ 33 }
+{
+    match frames {
+        Some(table) => table.text.len().min(0x1_0000_0000) + 8,
+        None => 0,
+    }
+}
+
+impl CodeDraft {
+    /// Passes a label. `Outside` comes where it stands before, too.
+    #[tactic(auto, unfolding(crate::specs::Drafts::label_passed))]
+    pub fn pass_label(&mut self, name: &Items<u8>) -> Result<(), LineFault>
+        ensures { Does result self.new (spec.label_passed name.now self.old) }
+    {
+        let Some(index) = self.labels.position(name.as_slice()) else {
+            return Err(LineFault::Outside);
+        };
+        if index != self.passed {
+            return Err(LineFault::Outside);
+        }
+        self.passed = index + 1;
+        Ok(())
+    }
+
+    /// Adds the bytes of an operation. `Outside` comes where a label has no place or is too far away, an index doesn't fit, the
+    /// pool has no room for what it needs, or the code would have more than 65,535 bytes.
+    #[tactic(auto, unfolding(crate::specs::Drafts::operation_added), using(crate::proofs::Long::long_is_none))]
+    pub fn add_operation(&mut self, alloc: Global, operation: &Operation) -> Result<(), LineFault>
+        ensures { Does result self.new (spec.operation_added operation.now self.old) }
+    {
+        let Ok(place) = u32::try_from(self.bytes.len()) else {
+            return Err(LineFault::Outside);
+        };
+        let text = emit(
+            alloc,
+            &self.labels,
+            place,
+            operation,
+            &mut self.method.class.pool,
+        )?;
+        self.bytes.append(text)?;
+        if self.bytes.len() > 65535 {
+            return Err(LineFault::Outside);
+        }
+        Ok(())
+    }
+
+    /// Adds the row of a catch line. `Outside` comes where a label has no place or one above 65,535, the pool has no room for
+    /// the class, or the code has 65,535 rows.
+    #[tactic(auto, unfolding(crate::specs::Drafts::handler_added))]
+    pub fn add_handler(&mut self, alloc: Global, line: &CatchLine) -> Result<(), LineFault>
+        ensures { Does result self.new (spec.handler_added line.now self.old) }
+    {
+        if self.handlers.len() >= 65535 {
+            return Err(LineFault::Outside);
+        }
+        let start = short_place(&self.labels, &line.from)?;
+        let end = short_place(&self.labels, &line.to)?;
+        let handler = short_place(&self.labels, &line.handler)?;
+        let catch = optional_class(alloc, &line.class, &mut self.method.class.pool)?;
+        self.handlers.push(Handler {
+            start,
+            end,
+            handler,
+            catch,
+        })?;
+        Ok(())
+    }
+}
+
+/// The code with the frame of a frame line. `Outside` comes where a label has no place or one above 65,535, the frame isn't
+/// behind the one before it, a list has more than 65,535 types, the pool has no room, or the code has 65,535 frames.
+#[tactic(auto, unfolding(crate::specs::Drafts::frame_added))]
+pub fn add_frame(alloc: Global, line: &FrameLine, code: CodeDraft) -> Result<CodeDraft, LineFault>
+    ensures { Yields (λ c. c) result (spec.frame_added line.now code) }
+{
+    let CodeDraft {
+        mut method,
+        stack,
+        locals,
+        bytes,
+        handlers,
+        frames,
+        labels,
+        passed,
+    } = code;
+    let mut table = begin_table(alloc, frames, &mut method.class.pool)?;
+    if table.count >= 65535 {
+        return Err(LineFault::Outside);
+    }
+    let place = short_place(&labels, &line.label)?;
+    let offset = delta(table.last, place)?;
+    let text = frame_text(
+        alloc,
+        &labels,
+        offset,
+        line.locals.as_slice(),
+        line.stack.as_slice(),
+        &mut method.class.pool,
+    )?;
+    table.text.append(text)?;
+    let table = FrameTable {
+        count: table.count + 1,
+        last: Some(place),
+        text: table.text,
+    };
+    Ok(CodeDraft {
+        method,
+        stack,
+        locals,
+        bytes,
+        handlers,
+        frames: Some(table),
+        labels,
+        passed,
+    })
+}
+
+// The length of a Code attribute stands in four bytes.
+fn is_short(code: &CodeDraft) -> bool
+    ensures { result ≡ spec.is_short code.now }
+{
+    let bytes = code.bytes.len().min(0x1_0000_0000);
+    let handlers = code.handlers.len().min(0x1_0000_0000);
+    12 + bytes + 8 * handlers + table_size(&code.frames) < 0x1_0000_0000
+}
+
+/// The class with the method of a code that ends here. `Outside` comes where it has no instruction, or the Code attribute
+/// would have 2^32 bytes or more.
+#[tactic(auto, unfolding(crate::specs::Drafts::code_ended))]
+pub fn end_code(alloc: Global, code: CodeDraft) -> Result<ClassDraft, LineFault>
+    ensures { Yields (λ c. c) result (spec.code_ended code) }
+{
+    if code.bytes.len() == 0 || !is_short(&code) {
+        return Err(LineFault::Outside);
+    }
+    let CodeDraft {
+        method,
+        stack,
+        locals,
+        bytes,
+        handlers,
+        frames,
+        labels: _,
+        passed: _,
+    } = code;
+    let map = optional_content(alloc, frames)?;
+    let tree = CodeTree {
+        stack,
+        locals,
+        bytes,
+        handlers,
+        map,
+    };
+    Ok(close_method(method, Some(tree))?)
+}
