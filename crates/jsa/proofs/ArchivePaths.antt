@@ -8,9 +8,10 @@ use Rattle.jsa_base.specs.Reading.{◌>>=◌, when}
 use Rattle.jsa_base.proofs.Codecs.{some_is}
 use Rattle.jsa_files.specs.Store.{Contents, Store}
 use Rattle.jsa.specs.declared.words.Sharing.{Sharing}
-use Rattle.jsa.specs.Words.{ends_in, has_no_colon, is_archive_path, behind, archive_path, archive_option, list_option, steps_option, sharing_option, folder_option, once, Taken, nothing, with_folder, with_archive, with_list, with_steps, with_sharing, with_word, with_words, options_from, is_dump, run_with, dump_with, internal_name, request_with, request_of, Request, Run, Dump, RunRequest, DumpRequest}
+use Rattle.jsa.specs.Words.{ends_in, has_no_colon, is_archive_path, behind, archive_path, archive_option, list_option, steps_option, sharing_option, folder_option, once, Taken, nothing, with_folder, with_archive, with_list, with_steps, with_sharing, with_word, with_words, options_from, is_dump, run_with, dump_with, internal_name, request_with, request_by_options, request_of, Request, Run, Dump, Asm, RunRequest, DumpRequest}
 use Rattle.jsa.specs.Stores.{contents_told}
-use Rattle.jsa.specs.Command.{OthersStay, Leaves, ClassFilesStay}
+use Rattle.jsa.specs.Command.{OthersStay, Leaves, ClassFilesStay, KeepsClassFiles}
+use Rattle.jsa.proofs.Options.{dump_options}
 
 -- ---- an archive that was taken
 
@@ -143,9 +144,12 @@ with_apart t (main ∷ []) d h e = absurd (map_run (run_with t (internal_name ma
 with_apart t (a ∷ b ∷ others) d h e = absurd cc
 
 -- The archive of a dump doesn't end as a class file.
+options_archive : (words : List (List ℕ)) (d : DumpRequest) → request_by_options words ≡ Some (Dump d) → ends_in (codes ".class") d.archive ≡ false
+unfolding request_by_options
+options_archive words d e = with_apart (options_from nothing words).0 (options_from nothing words).1 d (options_apart nothing words tt) e
+
 pub dump_archive : (words : List (List ℕ)) (d : DumpRequest) → request_of words ≡ Some (Dump d) → ends_in (codes ".class") d.archive ≡ false
-unfolding request_of
-dump_archive words d e = with_apart (options_from nothing words).0 (options_from nothing words).1 d (options_apart nothing words tt) e
+dump_archive words d e = options_archive words d (dump_options words d e)
 
 -- ---- what stays
 
@@ -159,8 +163,9 @@ others_stay archive None new apart h = h
 others_stay archive (Some old) None apart h = h
 others_stay archive (Some old) (Some new) apart h = λ path ends. h path (λ e. false≢true (subst IsTrue apart (subst (λ (p : List ℕ). IsTrue (ends_in (codes ".class") p)) e ends)))
 
--- The class files hold what they held, whatever the words ask for.
-pub classes_stay : (request : Option Request) (words : List (List ℕ)) (old new : Option Store) → request_of words ≡ request → Leaves request old new → ClassFilesStay (contents_told old) (contents_told new)
+-- The class files hold what they held, unless an assembly is asked for.
+pub classes_stay : (request : Option Request) (words : List (List ℕ)) (old new : Option Store) → request_of words ≡ request → Leaves request old new → KeepsClassFiles request (contents_told old) (contents_told new)
 classes_stay None words old new e h = all_stay (contents_told old) (contents_told new) h
 classes_stay (Some (Run r)) words old new e h = all_stay (contents_told old) (contents_told new) h
 classes_stay (Some (Dump d)) words old new e h = others_stay d.archive (contents_told old) (contents_told new) (dump_archive words d e) h
+classes_stay (Some (Asm a)) words old new e h = tt

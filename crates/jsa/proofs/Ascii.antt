@@ -15,7 +15,8 @@ use Rattle.jsa_names.specs.Paths as names
 use Rattle.jsa_names.specs.Texts.{is_one, second_at, before, units_of}
 use Rattle.jsa_names.proofs.Forms.{goes}
 use Rattle.jsa_names.proofs.NameTexts.{whole_text}
-use Rattle.jsa.specs.Words.{is_word_byte, is_segment, segments_of, internal_name, Taken, is_on, default_steps, run_with, dump_with, request_with, options_from, nothing, request_of, Run, Dump, RunRequest, DumpRequest}
+use Rattle.jsa.proofs.Options.{run_options}
+use Rattle.jsa.specs.Words.{is_word_byte, is_segment, segments_of, internal_name, Taken, is_on, default_steps, run_with, dump_with, request_with, options_from, nothing, request_by_options, request_of, Run, Dump, RunRequest, DumpRequest}
 
 -- ---- a byte of a segment
 
@@ -185,6 +186,9 @@ with_name t (main ∷ []) r e = (main, run_name t (internal_name main) r (map_ru
 with_name t (a ∷ b ∷ others) r e = absurd cc
 
 -- The name of a run is that of a word.
+options_name : (words : List (List ℕ)) (r : RunRequest) → request_by_options words ≡ Some (Run r) → (word : List ℕ) × (internal_name word ≡ Some r.name)
+unfolding request_by_options
+options_name words r e = with_name (options_from nothing words).0 (options_from nothing words).1 r e
+
 pub request_name : (words : List (List ℕ)) (r : RunRequest) → request_of words ≡ Some (Run r) → (word : List ℕ) × (internal_name word ≡ Some r.name)
-unfolding request_of
-request_name words r e = with_name (options_from nothing words).0 (options_from nothing words).1 r e
+request_name words r e = options_name words r (run_options words r e)

@@ -3,7 +3,7 @@ use Rattle.std.proofs.Common.{◌≡◌, ◌≢◌, inl, inr, ℕ, List, [], ◌
 use Rattle.jsa_files.specs.Store.{Contents, Store}
 use Rattle.jsa.specs.declared.ended.Ended.{Ended}
 use Rattle.jsa.specs.declared.ended.Ended.TheVariants.{Usage, Memory}
-use Rattle.jsa.specs.Words.{Request, Run, Dump, RunRequest, path_of}
+use Rattle.jsa.specs.Words.{Request, Run, Dump, Asm, RunRequest, path_of}
 use Rattle.jsa.specs.Stores.{contents_told, reads_told}
 use Rattle.jsa.specs.Runs.{PathAnswers}
 use Rattle.jsa.specs.Lines.{TakesLine, TakesFront, line_of}
@@ -25,6 +25,7 @@ nothing : (request : Option Request) (store : Option Store) (faults : ℕ × ℕ
 nothing None store faults out = (inr refl, refl, refl)
 nothing (Some (Run r)) store faults out = (run_nothing r.archive store r out, inl refl)
 nothing (Some (Dump d)) store faults out = (inl (refl, refl), λ e. absurd cc)
+nothing (Some (Asm a)) store faults out = (inl refl, inl refl, refl, λ e. absurd cc)
 
 pub no_memory : (request : Option Request) (store : Option Store) (faults : ℕ × ℕ) (out before after : Option (List ℕ)) (old new : ℕ) (can_fail : Type 0) (result : Ended) → IsOrMemory result Memory
     → Answered (RequestAnswers request store store faults out out) (steps_of request) before after old new can_fail result

@@ -28,17 +28,20 @@ use Rattle.archive_mapper.proofs.Stages.{as_one}
 use Rattle.vm_run.specs.declared.machine.End.{End}
 use Rattle.vm_run.specs.declared.machine.End.TheVariants as ends
 use Rattle.jsa.specs.declared.ended.Ended.{Ended}
-use Rattle.jsa.specs.declared.ended.Ended.TheVariants.{Exit, Usage, NoMain, Missing, NotShared, Stopped, Unsupported, ReadFault, WriteFault, Limit, Memory}
-use Rattle.jsa.specs.Words.{Request, Run, Dump, RunRequest, DumpRequest, path_of}
+use Rattle.jsa.specs.declared.ended.Ended.TheVariants.{Exit, Usage, BadText, NoMain, Missing, NotShared, Stopped, Unsupported, ReadFault, WriteFault, Limit, Memory}
+use Rattle.jsa.specs.Words.{Request, Run, Dump, Asm, RunRequest, DumpRequest, AsmRequest, path_of}
 use Rattle.jsa.specs.ClassList.{class_list}
 use Rattle.jsa.specs.Stores.{IsAt, Holds, contents_told, reads_told}
 use Rattle.jsa.specs.Runs.{HasProgram, Runs, IsUnsupported, IsTooLarge, FileAnswers, final}
 use Rattle.jsa.specs.Archived as archived
 use Rattle.jsa.specs.Archived.{MakesOf, archive_bytes, ReadsArchive, Opened, ListedTooLarge, TooManyNames, Refuses, InArchive, NotHeld, Dropped, TakesFrom, Taken, ArchiveAnswers}
+use Rattle.jsa.specs.Assembles.{HasText, IsAssembled, IsBadText, TextTooLarge, AsmAnswers, files_of, after_files}
+use Rattle.class_asm.specs.Assembly.{assembled}
+use Rattle.class_tree.specs.declared.tree.ClassTree.{ClassTree}
 use Rattle.jsa.specs.Dumps as dumps
 use Rattle.jsa.specs.Dumps.{Listed, Prepared, names_listed, IsInPath, IsInFolder, HasClass, HasClasses, HasNoClass, HasLarge, IsFirst, Gathered, Dumped, ListTooLarge, FolderTooLarge, FolderTooMany, TooManyClasses, PassesLimit, IsUnsupportedName, DumpAnswers}
 use Rattle.jsa.specs.Command.{RequestAnswers, RunAnswersBy, CountsReads, CountsWrites, CountsDump, CountsFor}
-use Rattle.jsa.specs.Completes.{IsOrMemory, EndsAs, FileCompletes, ArchiveCompletes, DumpCompletes, RunCompletesBy, RequestCompletes}
+use Rattle.jsa.specs.Completes.{IsOrMemory, EndsAs, FileCompletes, ArchiveCompletes, DumpCompletes, AsmCompletes, RunCompletesBy, RequestCompletes}
 
 -- ---- the file of a class
 
@@ -121,6 +124,7 @@ file_completes found steps before after (Limit Names limit) h r w = absurd h
 file_completes found steps before after (Limit Classes limit) h r w = absurd h
 file_completes found steps before after (Limit ArchiveSize limit) h r w = absurd h
 file_completes found steps before after Usage h r w = absurd h
+file_completes found steps before after (BadText number) h r w = absurd h
 file_completes found steps before after Missing h r w = absurd h
 file_completes found steps before after (NotShared refuse) h r w = absurd h
 file_completes found steps before after ReadFault h r w = absurd (r refl)
@@ -281,7 +285,9 @@ archive_completes contents old new r archive before after ended h rf wf = by_end
     by_end (NotShared refuse) (inl h) rf wf = absurd h.0
     by_end (NotShared refuse) (inr (o, h)) rf wf = by_refused contents r archive before after o refuse h.0.refused h.0.on
     by_end Usage (inl h) rf wf = absurd h.0
+    by_end (BadText number) (inl h) rf wf = absurd h.0
     by_end Usage (inr (o, h)) rf wf = absurd h
+    by_end (BadText number) (inr (o, h)) rf wf = absurd h
     by_end Missing (inl h) rf wf = absurd h.0
     by_end Missing (inr (o, h)) rf wf = absurd h
     by_end ReadFault h rf wf = absurd (rf refl)
@@ -536,6 +542,7 @@ answer_ends contents new faults d before after name Missing h rf wf = inl (inl (
 answer_ends contents new faults d before after name Unsupported h rf wf = inl (other_ends contents d name h.0)
 answer_ends contents new faults d before after name (Limit quantity limit) h rf wf = inl (limit_ends contents d quantity limit h.0)
 answer_ends contents new faults d before after name Usage h rf wf = absurd h
+answer_ends contents new faults d before after name (BadText number) h rf wf = absurd h
 answer_ends contents new faults d before after name NoMain h rf wf = absurd h
 answer_ends contents new faults d before after name (NotShared refuse) h rf wf = absurd h
 answer_ends contents new faults d before after name Stopped h rf wf = absurd h
@@ -565,6 +572,77 @@ dump_completes contents new faults d before after name ended h rf wf = record {
   by_cause : (answer : Ended) → DumpEnds contents d answer → IsOrMemory ended answer
   by_cause answer x = ends_as contents d ended answer (answer_ends contents new faults d before after name ended h rf wf) x
 
+-- ---- an assembly
+
+one_text : (contents : Contents) (a : AsmRequest) (x y : HasText (Some contents) a) → x.text ≡ y.text
+one_text contents a x y = same_bytes (get contents a.text) x.text y.text x.at y.at
+
+text_large : (contents : Contents) (a : AsmRequest) → HasText (Some contents) a → TextTooLarge (Some contents) a → ⊥
+text_large contents a x (found, at, large) = small_large found x.text (sym at ∙ x.at) x.small large
+
+missing_large : (contents : Contents) (a : AsmRequest) → get contents a.text ≡ None → TextTooLarge (Some contents) a → ⊥
+missing_large contents a n (found, at, large) = none_some (get contents a.text) large.bytes n (at ∙ large.at)
+
+trees_is : (x y : List ClassTree) → ◌≡◌ {A = Result (List ClassTree) ℕ} (Ok x) (Ok y) → x ≡ y
+trees_is x y e = cc
+
+line_is : (x y : ℕ) → ◌≡◌ {A = Result (List ClassTree) ℕ} (Err x) (Err y) → x ≡ y
+line_is x y e = cc
+
+trees_or_line : (trees : List ClassTree) (line : ℕ) → ◌≡◌ {A = Result (List ClassTree) ℕ} (Ok trees) (Err line) → ⊥
+trees_or_line trees line e = cc
+
+same_trees : (contents : Contents) (a : AsmRequest) (x y : IsAssembled (Some contents) a) → x.trees ≡ y.trees
+same_trees contents a x y = trees_is x.trees y.trees (sym x.is ∙ ap assembled (one_text contents a x.has y.has) ∙ y.is)
+
+same_line : (contents : Contents) (a : AsmRequest) (m n : ℕ) → IsBadText (Some contents) a m → IsBadText (Some contents) a n → m ≡ n
+same_line contents a m n x y = line_is m n (sym x.is ∙ ap assembled (one_text contents a x.has y.has) ∙ y.is)
+
+not_both : (contents : Contents) (a : AsmRequest) (line : ℕ) → IsAssembled (Some contents) a → IsBadText (Some contents) a line → ⊥
+not_both contents a line x y = trees_or_line x.trees line (sym x.is ∙ ap assembled (one_text contents a x.has y.has) ∙ y.is)
+
+asm_completes : (contents : Contents) (new : Option Contents) (faults : ℕ × ℕ) (a : AsmRequest) (ended : Ended) → AsmAnswers (Some contents) new faults a ended → ended ≢ ReadFault → ended ≢ WriteFault → AsmCompletes (Some contents) new a ended
+asm_completes contents new faults a (Exit code) h rf wf = record {
+  missing = λ n. absurd (none_some (get contents a.text) h.1.has.text n h.1.has.at);
+  large = λ l. absurd (text_large contents a h.1.has l);
+  bad = λ line b. absurd (not_both contents a line h.1 b);
+  written = λ x. inl (ap Exit h.0, h.2 ∙ ap (λ (t : List ClassTree). after_files (Some contents) (files_of a.folder t)) (same_trees contents a h.1 x));
+}
+asm_completes contents new faults a Missing h rf wf = record {
+  missing = λ n. inl refl;
+  large = λ l. absurd (missing_large contents a h.0 l);
+  bad = λ line b. absurd (none_some (get contents a.text) b.has.text h.0 b.has.at);
+  written = λ x. absurd (none_some (get contents a.text) x.has.text h.0 x.has.at);
+}
+asm_completes contents new faults a (BadText number) h rf wf = record {
+  missing = λ n. absurd (none_some (get contents a.text) h.0.has.text n h.0.has.at);
+  large = λ l. absurd (text_large contents a h.0.has l);
+  bad = λ line b. inl (ap BadText (same_line contents a number line h.0 b));
+  written = λ x. absurd (not_both contents a number x h.0);
+}
+asm_completes contents new faults a (Limit FileSize limit) h rf wf = record {
+  missing = λ n. absurd (missing_large contents a n h.1);
+  large = λ l. inl (ap (Limit FileSize) h.0);
+  bad = λ line b. absurd (text_large contents a b.has h.1);
+  written = λ x. absurd (text_large contents a x.has h.1);
+}
+asm_completes contents new faults a (Limit Names limit) h rf wf = absurd h
+asm_completes contents new faults a (Limit Classes limit) h rf wf = absurd h
+asm_completes contents new faults a (Limit ArchiveSize limit) h rf wf = absurd h
+asm_completes contents new faults a Usage h rf wf = absurd h
+asm_completes contents new faults a NoMain h rf wf = absurd h
+asm_completes contents new faults a (NotShared refuse) h rf wf = absurd h
+asm_completes contents new faults a Stopped h rf wf = absurd h
+asm_completes contents new faults a Unsupported h rf wf = absurd h
+asm_completes contents new faults a ReadFault h rf wf = absurd (rf refl)
+asm_completes contents new faults a WriteFault h rf wf = absurd (wf refl)
+asm_completes contents new faults a Memory h rf wf = record {
+  missing = λ n. inr refl;
+  large = λ l. inr refl;
+  bad = λ line b. inr refl;
+  written = λ x. inr refl;
+}
+
 -- ---- the answer to the words
 
 no_read_fault : (before now : ℕ) (ended : Ended) → CountsReads before now ended → ¬ (Rose before now) → ended ≢ ReadFault
@@ -588,6 +666,9 @@ pub completes : (request : Option Request) (old new : Option Store) (before afte
 completes None old new before after subject ended r0 r1 f0 f1 o0 o1 h reads writes calm_reads calm_files calm_out = h.0
 completes (Some (Run r)) None new before after subject ended r0 r1 f0 f1 o0 o1 h reads writes calm_reads calm_files calm_out = tt
 completes (Some (Dump d)) None new before after subject ended r0 r1 f0 f1 o0 o1 h reads writes calm_reads calm_files calm_out = tt
+completes (Some (Asm a)) None new before after subject ended r0 r1 f0 f1 o0 o1 h reads writes calm_reads calm_files calm_out = tt
+completes (Some (Asm a)) (Some old) new before after subject ended r0 r1 f0 f1 o0 o1 h reads writes calm_reads calm_files calm_out =
+    asm_completes old.contents (contents_told new) (f0, f1) a ended h.0 (no_read_fault r0 r1 ended reads calm_reads) (no_write_fault f0 f1 ended writes.1 calm_files)
 completes (Some (Run r)) (Some old) new before after subject ended r0 r1 f0 f1 o0 o1 h reads writes calm_reads calm_files calm_out =
     run_completes r.archive old new r before after ended h.0 (no_read_fault r0 r1 ended reads calm_reads) (no_write_fault o0 o1 ended writes.1 calm_out)
 completes (Some (Dump d)) (Some old) new before after subject ended r0 r1 f0 f1 o0 o1 h reads writes calm_reads calm_files calm_out =

@@ -7,7 +7,7 @@ use Rattle.std.proofs.lemmas.List.{append-nil, append_assoc}
 use Rattle.jsa_files.specs.declared.fault.FilesFault.{FilesFault}
 use Rattle.jsa_files.specs.Store.{Store, ReadAnswer, store_after_read, with_file}
 use Rattle.jsa.specs.declared.ended.Ended.{Ended}
-use Rattle.jsa.specs.declared.ended.Ended.TheVariants.{Exit, Usage, NoMain, Missing, NotShared, Stopped, Unsupported, ReadFault, WriteFault, Limit, Memory}
+use Rattle.jsa.specs.declared.ended.Ended.TheVariants.{Exit, Usage, BadText, NoMain, Missing, NotShared, Stopped, Unsupported, ReadFault, WriteFault, Limit, Memory}
 use Rattle.jsa.specs.Stores.{contents_told, reads_told, Holds, ReadsBy, ReadsFront}
 use Rattle.jsa.specs.Runs.{ReadsPath, ReadsClass}
 use Rattle.jsa.specs.Archived.{archive_reads}
@@ -56,6 +56,7 @@ front_archive old new archive (Some bytes) h = record { front = archive ∷ []; 
 pub path_class : (old new : Option (List (List ℕ))) (path : List ℕ) (ended : Ended) → ReadsPath old new path ended → ReadsClass old new [] (path ∷ []) ended
 path_class old new path (Exit code) h = h
 path_class old new path Usage h = reads_nothing old new h
+path_class old new path (BadText number) h = h
 path_class old new path NoMain h = reads_nothing old new h
 path_class old new path Missing h = reads_nothing old new h
 path_class old new path (NotShared refuse) h = reads_nothing old new h
@@ -70,6 +71,7 @@ path_class old new path Memory (inr h) = inr h
 pub no_class : (old new : Option (List (List ℕ))) (ended : Ended) → new ≡ old → ReadsClass old new [] [] ended
 no_class old new (Exit code) e = reads_nothing old new e
 no_class old new Usage e = reads_nothing old new e
+no_class old new (BadText number) e = reads_nothing old new e
 no_class old new NoMain e = reads_nothing old new e
 no_class old new Missing e = reads_nothing old new e
 no_class old new (NotShared refuse) e = reads_nothing old new e
@@ -87,6 +89,7 @@ first_nothing a b c first h k = subst (λ (l : List (List ℕ)). ReadsBy a c l) 
 pub behind_first : (a b c : Option (List (List ℕ))) (first paths : List (List ℕ)) (ended : Ended) → ReadsBy a b first → ReadsClass b c [] paths ended → ReadsClass a c first paths ended
 behind_first a b c first paths (Exit code) h k = reads_then a b c first paths h k
 behind_first a b c first paths Usage h k = first_nothing a b c first h k
+behind_first a b c first paths (BadText number) h k = reads_then a b c first paths h k
 behind_first a b c first paths NoMain h k = first_nothing a b c first h k
 behind_first a b c first paths Missing h k = first_nothing a b c first h k
 behind_first a b c first paths (NotShared refuse) h k = first_nothing a b c first h k
@@ -101,6 +104,7 @@ behind_first a b c first paths Memory h (inr k) = inr (reads_then a b c first pa
 pub class_memory : (old new : Option (List (List ℕ))) (first paths : List (List ℕ)) (ended : Ended) → ReadsClass old new first paths ended → ReadsClass old new first paths Memory
 class_memory old new first paths (Exit code) h = inr h
 class_memory old new first paths Usage h = inl h
+class_memory old new first paths (BadText number) h = inr h
 class_memory old new first paths NoMain h = inl h
 class_memory old new first paths Missing h = inl h
 class_memory old new first paths (NotShared refuse) h = inl h

@@ -15,3 +15,4 @@ pub mod Dumping
 pub mod Numerals
 pub mod Options
 pub mod Names
+pub mod Assembles

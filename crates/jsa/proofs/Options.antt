@@ -1,8 +1,8 @@
--- The options at the front of words, one at a time.
+-- The options at the front of words, one at a time, and what they ask for.
 use Rattle.std.proofs.Common.{◌≡◌, ◌≤◌, ◌-◌, ℕ, suc, arith, List, [], ◌∷◌, length, take, drop, get_or, Option, Some, None, refl, sym, ap, ◌∙◌}
 use Rattle.std.proofs.Math.Seq.{take-length}
 use Rattle.std.specs.Option.{option_map, option_or, unwrap_or}
-use Rattle.jsa.specs.Words.{Taken, with_word, with_words, options_from}
+use Rattle.jsa.specs.Words.{Taken, with_word, with_words, options_from, Request, Run, Dump, Asm, RunRequest, DumpRequest, AsmRequest, asm_request, request_by_options, request_of}
 
 abbrev by_two : Taken → List ℕ → List ℕ → List (List ℕ) → Option Taken → Option Taken → Taken × List (List ℕ)
 by_two t word second words two one =
@@ -29,3 +29,21 @@ first_of [] x e h = absurd (omega (arith, h))
 first_of {A} (y ∷ ys) x e h =
     let less : suc (length ys) - 1 ≡ length ys = omega arith in
     ap (λ (a : A). a ∷ ys) (sym e) ∙ ap (λ (l : List A). x ∷ l) (sym (ap (λ (n : ℕ). take n ys) less ∙ take-length ys))
+
+-- ---- what is no assembly is asked for by options
+
+pub run_options : (words : List (List ℕ)) (r : RunRequest) → request_of words ≡ Some (Run r) → request_by_options words ≡ Some (Run r)
+unfolding request_of
+run_options words r e = by (asm_request words) (request_by_options words) e
+  where
+    by : (asm : Option AsmRequest) (o : Option Request) → option_or (option_map Asm asm) o ≡ Some (Run r) → o ≡ Some (Run r)
+    by None o h = h
+    by (Some a) o h = absurd cc
+
+pub dump_options : (words : List (List ℕ)) (d : DumpRequest) → request_of words ≡ Some (Dump d) → request_by_options words ≡ Some (Dump d)
+unfolding request_of
+dump_options words d e = by (asm_request words) (request_by_options words) e
+  where
+    by : (asm : Option AsmRequest) (o : Option Request) → option_or (option_map Asm asm) o ≡ Some (Dump d) → o ≡ Some (Dump d)
+    by None o h = h
+    by (Some a) o h = absurd cc

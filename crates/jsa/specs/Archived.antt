@@ -13,7 +13,7 @@ use Rattle.class_record.specs.declared.class.PlainClass.{PlainClass}
 use Rattle.class_record.specs.Records.{class_in}
 use Rattle.archive_mapper.specs.Mapping.{Maps}
 use Rattle.jsa.specs.declared.ended.Ended.{Ended}
-use Rattle.jsa.specs.declared.ended.Ended.TheVariants.{Exit, Usage, NoMain, Missing, NotShared, Stopped, Unsupported, ReadFault, WriteFault, Limit, Memory}
+use Rattle.jsa.specs.declared.ended.Ended.TheVariants.{Exit, Usage, BadText, NoMain, Missing, NotShared, Stopped, Unsupported, ReadFault, WriteFault, Limit, Memory}
 use Rattle.jsa.specs.Words.{RunRequest, path_of}
 use Rattle.jsa.specs.Stores.{IsAt, ReadsBy, ReadsFront}
 use Rattle.jsa.specs.Runs.{FileAnswers, ReadsClass, IsTooLarge}
@@ -82,6 +82,7 @@ OpensNot contents old new folder archive ReadFault = ReadsFront old new (archive
 OpensNot contents old new folder archive Memory = ReadsFront old new (archive ∷ [])
 OpensNot contents old new folder archive (Exit code) = ⊥
 OpensNot contents old new folder archive Usage = ⊥
+OpensNot contents old new folder archive (BadText number) = ⊥
 OpensNot contents old new folder archive NoMain = ⊥
 OpensNot contents old new folder archive Missing = ⊥
 OpensNot contents old new folder archive (NotShared refuse) = ⊥
@@ -144,6 +145,7 @@ MappedAnswers contents old new first r bytes now before after Unsupported = Take
 MappedAnswers contents old new first r bytes now before after WriteFault = Taken contents old new first r bytes now before after WriteFault
 MappedAnswers contents old new first r bytes now before after (Limit quantity limit) = Taken contents old new first r bytes now before after (Limit quantity limit)
 MappedAnswers contents old new first r bytes now before after Usage = ⊥
+MappedAnswers contents old new first r bytes now before after (BadText number) = ⊥
 MappedAnswers contents old new first r bytes now before after Missing = ⊥
 MappedAnswers contents old new first r bytes now before after ReadFault = ReadsBy old new first × (after ≡ before)
 MappedAnswers contents old new first r bytes now before after Memory = (ReadsBy old new first × (after ≡ before)) ⊎ Taken contents old new first r bytes now before after Memory

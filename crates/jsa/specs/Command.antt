@@ -1,17 +1,18 @@
 -- What the top call answers, and why, and what it leaves.
-use Rattle.std.specs.Prelude.{◌≡◌, ◌≢◌, ◌≤◌, ◌⊎◌, ℕ, List, IsTrue, Option, Some, None, codes}
+use Rattle.std.specs.Prelude.{◌≡◌, ◌≢◌, ◌≤◌, ◌⊎◌, ℕ, List, IsTrue, Option, Some, None, codes, ⊤}
 use Rattle.std.specs.FinMap.{get}
 use Rattle.jsa_files.specs.Causes.{Rose}
 use Rattle.jsa_files.specs.Store.{Contents, Store}
 use Rattle.jsa_files.specs.Sinks.{GrowsByFront}
 use Rattle.jsa.specs.declared.ended.Ended.{Ended}
-use Rattle.jsa.specs.declared.ended.Ended.TheVariants.{Exit, Usage, NoMain, Missing, NotShared, Stopped, Unsupported, ReadFault, WriteFault, Limit, Memory}
-use Rattle.jsa.specs.Words.{Request, Run, Dump, RunRequest, DumpRequest, path_of, ends_in}
+use Rattle.jsa.specs.declared.ended.Ended.TheVariants.{Exit, Usage, BadText, NoMain, Missing, NotShared, Stopped, Unsupported, ReadFault, WriteFault, Limit, Memory}
+use Rattle.jsa.specs.Words.{Request, Run, Dump, Asm, RunRequest, DumpRequest, AsmRequest, path_of, ends_in}
 use Rattle.jsa.specs.Stores.{contents_told, reads_told}
 use Rattle.jsa.specs.Lines.{line_of, TakesLine}
 use Rattle.jsa.specs.Runs.{PathAnswers, ReadsPath, ReadsNothing}
 use Rattle.jsa.specs.Archived.{ArchiveAnswers}
 use Rattle.jsa.specs.Dumps.{DumpAnswers}
+use Rattle.jsa.specs.Assembles.{AsmAnswers, AsmLeaves}
 
 -- ---- the answer
 
@@ -32,6 +33,7 @@ abbrev pub run_subject : RunRequest → Ended → List ℕ
 run_subject r (NotShared refuse) = archive_or r.archive r.name
 run_subject r (Exit code) = r.name
 run_subject r Usage = r.name
+run_subject r (BadText number) = r.name
 run_subject r NoMain = r.name
 run_subject r Missing = r.name
 run_subject r Stopped = r.name
@@ -45,17 +47,24 @@ run_subject r Memory = r.name
 abbrev pub TellsList : DumpRequest → List ℕ → Ended → Type 0
 TellsList d subject ended = ended ≡ Missing → subject ≡ d.list
 
--- The answer to the words, with what its line tells, where the store's count of writes that failed was and is so. Words outside the grammar have Usage, and nothing is read or put.
+-- The line of an assembly's end tells the text's path where the text is missing.
+abbrev pub TellsText : AsmRequest → List ℕ → Ended → Type 0
+TellsText a subject ended = ended ≡ Missing → subject ≡ a.text
+
+-- The answer to the words, with what its line tells, where the store's count of writes that failed was and is so. Words
+-- outside the grammar have Usage, and nothing is read or put. An assembly reads the text alone, once, and puts nothing.
 abbrev pub RequestAnswers : Option Request → Option Store → Option Store → ℕ × ℕ → Option (List ℕ) → Option (List ℕ) → List ℕ → Ended → Type 0
 RequestAnswers None old new faults before after subject ended = ((ended ≡ Usage) ⊎ (ended ≡ Memory)) × ReadsNothing (reads_told old) (reads_told new) × (after ≡ before)
 RequestAnswers (Some (Run r)) old new faults before after subject ended = RunAnswers old new r before after ended × ((ended ≡ Memory) ⊎ (subject ≡ run_subject r ended))
 RequestAnswers (Some (Dump d)) old new faults before after subject ended = DumpAnswers (contents_told old) (contents_told new) faults d before after subject ended × TellsList d subject ended
+RequestAnswers (Some (Asm a)) old new faults before after subject ended = AsmAnswers (contents_told old) (contents_told new) faults a ended × ReadsPath (reads_told old) (reads_told new) a.text ended × (after ≡ before) × TellsText a subject ended
 
 -- the limit of turns that a line may tell
 abbrev pub steps_of : Option Request → ℕ
 steps_of None = 0
 steps_of (Some (Run r)) = r.steps
 steps_of (Some (Dump d)) = 0
+steps_of (Some (Asm a)) = 0
 
 -- The answer is one of these, and err took its line; where memory ran out a clause of its own says what err took.
 pub record Answered (Answers : List ℕ → Ended → Type 0) (steps : ℕ) (before after : Option (List ℕ)) (old new : ℕ) (can_fail : Type 0) (ended : Ended) : Type 0 where
@@ -72,6 +81,7 @@ CountsReads before now ReadFault = (before ≤ now) × Rose before now
 CountsReads before now Memory = before ≤ now
 CountsReads before now (Exit code) = now ≡ before
 CountsReads before now Usage = now ≡ before
+CountsReads before now (BadText number) = now ≡ before
 CountsReads before now NoMain = now ≡ before
 CountsReads before now Missing = now ≡ before
 CountsReads before now (NotShared refuse) = now ≡ before
@@ -80,12 +90,13 @@ CountsReads before now Unsupported = now ≡ before
 CountsReads before now WriteFault = now ≡ before
 CountsReads before now (Limit quantity limit) = now ≡ before
 
--- The same for the count of out's puts that failed in a run, and WriteFault.
+-- The same for the count of out's puts that failed in a run, or of a store's writes in an assembly, and WriteFault.
 abbrev pub CountsWrites : ℕ → ℕ → Ended → Type 0
 CountsWrites before now WriteFault = (before ≤ now) × Rose before now
 CountsWrites before now Memory = before ≤ now
 CountsWrites before now (Exit code) = now ≡ before
 CountsWrites before now Usage = now ≡ before
+CountsWrites before now (BadText number) = now ≡ before
 CountsWrites before now NoMain = now ≡ before
 CountsWrites before now Missing = now ≡ before
 CountsWrites before now (NotShared refuse) = now ≡ before
@@ -100,6 +111,7 @@ CountsDump files files' out out' WriteFault = ((files ≤ files') × Rose files 
 CountsDump files files' out out' Memory = (files ≤ files') × (out ≤ out')
 CountsDump files files' out out' (Exit code) = (files' ≡ files) × (out' ≡ out)
 CountsDump files files' out out' Usage = (files' ≡ files) × (out' ≡ out)
+CountsDump files files' out out' (BadText number) = (files' ≡ files) × (out' ≡ out)
 CountsDump files files' out out' NoMain = (files' ≡ files) × (out' ≡ out)
 CountsDump files files' out out' Missing = (files' ≡ files) × (out' ≡ out)
 CountsDump files files' out out' (NotShared refuse) = (files' ≡ files) × (out' ≡ out)
@@ -108,17 +120,19 @@ CountsDump files files' out out' Unsupported = (files' ≡ files) × (out' ≡ o
 CountsDump files files' out out' ReadFault = (files' ≡ files) × (out' ≡ out)
 CountsDump files files' out out' (Limit quantity limit) = (files' ≡ files) × (out' ≡ out)
 
--- Which counts of writes rise, by what was asked: only a dump writes a file.
+-- Which counts of writes rise, by what was asked: a run puts, an assembly writes files, and a dump does both.
 abbrev pub CountsFor : Option Request → ℕ → ℕ → ℕ → ℕ → Ended → Type 0
 CountsFor None files files' out out' ended = (files' ≡ files) × CountsWrites out out' ended
 CountsFor (Some (Run r)) files files' out out' ended = (files' ≡ files) × CountsWrites out out' ended
 CountsFor (Some (Dump d)) files files' out out' ended = CountsDump files files' out out' ended
+CountsFor (Some (Asm a)) files files' out out' ended = (out' ≡ out) × CountsWrites files files' ended
 
 -- Which of the outside may have failed where the answer is WriteFault.
 abbrev pub CanFailWrites : Option Request → Type 0 → Type 0 → Type 0
 CanFailWrites None files out = out
 CanFailWrites (Some (Run r)) files out = out
 CanFailWrites (Some (Dump d)) files out = files ⊎ out
+CanFailWrites (Some (Asm a)) files out = files
 
 -- An end that a call could have answered, which left these counts: its cause holds, and a fault's count rose.
 pub record CouldAnswer (Answers Writes : Ended → Type 0) (reads_before reads_now : ℕ) (ended : Ended) : Type 0 where
@@ -142,14 +156,22 @@ OthersStay written None new = new ≡ None
 OthersStay written (Some old) None = ⊥
 OthersStay written (Some old) (Some new) = (path : List ℕ) → path ≢ written → get new path ≡ get old path
 
--- A run leaves all paths as they were, and a dump all but the archive's.
+-- A run leaves all paths as they were, a dump all but the archive's, and an assembly all but those of its class files.
 abbrev pub Leaves : Option Request → Option Store → Option Store → Type 0
 Leaves None old new = contents_told new ≡ contents_told old
 Leaves (Some (Run r)) old new = contents_told new ≡ contents_told old
 Leaves (Some (Dump d)) old new = OthersStay d.archive (contents_told old) (contents_told new)
+Leaves (Some (Asm a)) old new = AsmLeaves a (contents_told old) (contents_told new)
 
 -- Every path of a class file holds what it held.
 abbrev pub ClassFilesStay : Option Contents → Option Contents → Type 0
 ClassFilesStay None new = new ≡ None
 ClassFilesStay (Some old) None = ⊥
 ClassFilesStay (Some old) (Some new) = (path : List ℕ) → IsTrue (ends_in (codes ".class") path) → get new path ≡ get old path
+
+-- Only an assembly writes class files.
+abbrev pub KeepsClassFiles : Option Request → Option Contents → Option Contents → Type 0
+KeepsClassFiles None old new = ClassFilesStay old new
+KeepsClassFiles (Some (Run r)) old new = ClassFilesStay old new
+KeepsClassFiles (Some (Dump d)) old new = ClassFilesStay old new
+KeepsClassFiles (Some (Asm a)) old new = ⊤

@@ -12,12 +12,13 @@ use Rattle.classfile_reader.specs.declared.program.Program.{Program}
 use Rattle.vm_run.specs.declared.machine.End.{End}
 use Rattle.vm_run.specs.declared.machine.End.TheVariants as ends
 use Rattle.jsa.specs.declared.ended.Ended.{Ended}
-use Rattle.jsa.specs.declared.ended.Ended.TheVariants.{Exit, Usage, NoMain, Missing, NotShared, Stopped, Unsupported, Limit, Memory}
-use Rattle.jsa.specs.Words.{Request, Run, Dump, RunRequest, DumpRequest, path_of}
+use Rattle.jsa.specs.declared.ended.Ended.TheVariants.{Exit, Usage, BadText, NoMain, Missing, NotShared, Stopped, Unsupported, Limit, Memory}
+use Rattle.jsa.specs.Words.{Request, Run, Dump, Asm, RunRequest, DumpRequest, AsmRequest, path_of}
 use Rattle.jsa.specs.Stores.{IsAt, Holds, contents_told}
 use Rattle.jsa.specs.Runs.{HasProgram, IsUnsupported, IsTooLarge, final}
 use Rattle.jsa.specs.Archived as archived
 use Rattle.jsa.specs.Dumps as dumps
+use Rattle.jsa.specs.Assembles as asm
 
 -- A call that ends with want of memory in place of its answer.
 abbrev pub IsOrMemory : Ended → Ended → Type 0
@@ -53,6 +54,13 @@ pub record DumpCompletes (old new : Option Contents) (d : DumpRequest) (ended : 
   pub dumped : (g : dumps.Gathered old d) → length g.classes ≤ 65_535 → length (archive_text g.classes g.prepared.now) ≤ 67_108_864
       → ((ended ≡ Exit 0) × Holds old new d.archive (archive_text g.classes g.prepared.now)) ⊎ (ended ≡ Memory)
 
+-- for an assembly
+pub record AsmCompletes (old new : Option Contents) (a : AsmRequest) (ended : Ended) : Type 0 where
+  pub missing : IsAt old a.text None → IsOrMemory ended Missing
+  pub large : asm.TextTooLarge old a → IsOrMemory ended (Limit FileSize MAX_FILE)
+  pub bad : (line : ℕ) → asm.IsBadText old a line → IsOrMemory ended (BadText line)
+  pub written : (x : asm.IsAssembled old a) → ((ended ≡ Exit 0) × (new ≡ asm.after_files old (asm.files_asked x))) ⊎ (ended ≡ Memory)
+
 abbrev pub RunCompletesBy : Option (List ℕ) → Contents → RunRequest → Option (List ℕ) → Option (List ℕ) → Ended → Type 0
 RunCompletesBy None contents r before after ended = FileCompletes (get contents (path_of r)) r.steps before after ended
 RunCompletesBy (Some archive) contents r before after ended = ArchiveCompletes (Some contents) r archive before after ended
@@ -63,3 +71,4 @@ RequestCompletes None old new before after ended = IsOrMemory ended Usage
 RequestCompletes (Some request) None new before after ended = ⊤
 RequestCompletes (Some (Run r)) (Some old) new before after ended = RunCompletesBy r.archive old.contents r before after ended
 RequestCompletes (Some (Dump d)) (Some old) new before after ended = DumpCompletes (Some old.contents) (contents_told new) d ended
+RequestCompletes (Some (Asm a)) (Some old) new before after ended = AsmCompletes (Some old.contents) (contents_told new) a ended

@@ -11,7 +11,7 @@ use Rattle.vm_run.specs.declared.machine.End.{End}
 use Rattle.vm_run.specs.declared.machine.End.TheVariants as ends
 use Rattle.vm_run.specs.Machine.{State, state_after, start}
 use Rattle.jsa.specs.declared.ended.Ended.{Ended}
-use Rattle.jsa.specs.declared.ended.Ended.TheVariants.{Exit, Usage, NoMain, Missing, NotShared, Stopped, Unsupported, ReadFault, WriteFault, Limit, Memory}
+use Rattle.jsa.specs.declared.ended.Ended.TheVariants.{Exit, Usage, BadText, NoMain, Missing, NotShared, Stopped, Unsupported, ReadFault, WriteFault, Limit, Memory}
 use Rattle.jsa.specs.Stores.{ReadsBy}
 
 -- The file is no larger than the limit and a class of the first form, with this program.
@@ -63,6 +63,7 @@ FileAnswers found steps before after (Limit Names limit) = ⊥
 FileAnswers found steps before after (Limit Classes limit) = ⊥
 FileAnswers found steps before after (Limit ArchiveSize limit) = ⊥
 FileAnswers found steps before after Usage = ⊥
+FileAnswers found steps before after (BadText number) = ⊥
 FileAnswers found steps before after Missing = ⊥
 FileAnswers found steps before after (NotShared refuse) = ⊥
 FileAnswers found steps before after ReadFault = after ≡ before
@@ -81,6 +82,7 @@ ProgramAnswers program steps before after Stopped = ((final program steps).end �
 ProgramAnswers program steps before after WriteFault = GrowsByFront before after (final program steps).out
 ProgramAnswers program steps before after Memory = GrowsByFront before after (final program steps).out
 ProgramAnswers program steps before after Usage = ⊥
+ProgramAnswers program steps before after (BadText number) = ⊥
 ProgramAnswers program steps before after NoMain = ⊥
 ProgramAnswers program steps before after Missing = ⊥
 ProgramAnswers program steps before after (NotShared refuse) = ⊥
@@ -96,6 +98,7 @@ ReadsClass old new first paths Stopped = ReadsBy old new (first ++ paths)
 ReadsClass old new first paths Unsupported = ReadsBy old new (first ++ paths)
 ReadsClass old new first paths WriteFault = ReadsBy old new (first ++ paths)
 ReadsClass old new first paths Usage = ReadsBy old new first
+ReadsClass old new first paths (BadText number) = ReadsBy old new (first ++ paths)
 ReadsClass old new first paths NoMain = ReadsBy old new first
 ReadsClass old new first paths Missing = ReadsBy old new first
 ReadsClass old new first paths (NotShared refuse) = ReadsBy old new first
@@ -103,7 +106,8 @@ ReadsClass old new first paths (Limit quantity limit) = ReadsBy old new first
 ReadsClass old new first paths ReadFault = ReadsBy old new first
 ReadsClass old new first paths Memory = ReadsBy old new first ⊎ ReadsBy old new (first ++ paths)
 
--- The reads of a run without an archive: they grow by the path where its bytes were handed out, and else not at all.
+-- The reads of a run without an archive, or of an assembly: they grow by the path where its bytes were handed out, and
+-- else not at all.
 abbrev pub ReadsNothing : Option (List (List ℕ)) → Option (List (List ℕ)) → Type 0
 ReadsNothing old new = new ≡ old
 
@@ -116,6 +120,7 @@ ReadsPath old new path Stopped = ReadsOnce path old new
 ReadsPath old new path Unsupported = ReadsOnce path old new
 ReadsPath old new path WriteFault = ReadsOnce path old new
 ReadsPath old new path Usage = ReadsNothing old new
+ReadsPath old new path (BadText number) = ReadsOnce path old new
 ReadsPath old new path NoMain = ReadsNothing old new
 ReadsPath old new path Missing = ReadsNothing old new
 ReadsPath old new path (NotShared refuse) = ReadsNothing old new

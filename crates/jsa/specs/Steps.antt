@@ -11,13 +11,16 @@ use Rattle.jsa_names.specs.Paths as names
 use Rattle.classfile_reader.specs.FirstForm.{IsClassNamed}
 use Rattle.class_record.specs.Records.{class_in}
 use Rattle.jsa.specs.declared.ended.Ended.{Ended}
-use Rattle.jsa.specs.declared.ended.Ended.TheVariants.{Exit, Usage, NoMain, Missing, NotShared, Stopped, Unsupported, ReadFault, WriteFault, Limit, Memory}
+use Rattle.jsa.specs.declared.ended.Ended.TheVariants.{Exit, Usage, BadText, NoMain, Missing, NotShared, Stopped, Unsupported, ReadFault, WriteFault, Limit, Memory}
 use Rattle.jsa.specs.declared.archive_run.ArchiveAndManifest.{ArchiveAndManifest}
 use Rattle.jsa.specs.declared.gathering.DumpEnd.{DumpEnd}
+use Rattle.jsa.specs.declared.assembling.ClassFault.{ClassFault}
+use Rattle.jsa.specs.declared.assembling.ClassFault.TheVariants as class_faults
 use Rattle.jsa.specs.Words.{DumpRequest}
 use Rattle.jsa.specs.ClassList.{class_list}
 use Rattle.jsa.specs.Stores.{IsAt, Holds, HoldsFront, ReadsBy}
 use Rattle.jsa.specs.Archived.{Opened, OpensNot, archive_bytes, archive_reads}
+use Rattle.jsa.specs.Assembles.{ClassFile, after_files, FailsAt, WritesSome}
 use Rattle.jsa.specs.Dumps.{Listed, ListTooLarge, HasClass, HasClasses, HasNoClass, HasLarge, IsFirst, dumped_line}
 
 -- ---- a run with an archive
@@ -44,6 +47,7 @@ ListsNot contents d ReadFault = ⊤
 ListsNot contents d Memory = ⊤
 ListsNot contents d (Exit code) = ⊥
 ListsNot contents d Usage = ⊥
+ListsNot contents d (BadText number) = ⊥
 ListsNot contents d NoMain = ⊥
 ListsNot contents d (NotShared refuse) = ⊥
 ListsNot contents d Stopped = ⊥
@@ -65,6 +69,7 @@ HasNot contents folder name ReadFault = ⊤
 HasNot contents folder name Memory = ⊤
 HasNot contents folder name (Exit code) = ⊥
 HasNot contents folder name Usage = ⊥
+HasNot contents folder name (BadText number) = ⊥
 HasNot contents folder name NoMain = ⊥
 HasNot contents folder name Missing = ⊥
 HasNot contents folder name (NotShared refuse) = ⊥
@@ -83,6 +88,7 @@ IsNotIn bytes name (Limit quantity limit) = ⊥
 IsNotIn bytes name ReadFault = ⊥
 IsNotIn bytes name (Exit code) = ⊥
 IsNotIn bytes name Usage = ⊥
+IsNotIn bytes name (BadText number) = ⊥
 IsNotIn bytes name NoMain = ⊥
 IsNotIn bytes name Missing = ⊥
 IsNotIn bytes name (NotShared refuse) = ⊥
@@ -122,6 +128,7 @@ PutsLine count before after (Exit code) = (code ≡ 0) × GrowsBy before after (
 PutsLine count before after WriteFault = GrowsByFront before after (dumped_line count)
 PutsLine count before after Memory = GrowsByFront before after (dumped_line count)
 PutsLine count before after Usage = ⊥
+PutsLine count before after (BadText number) = ⊥
 PutsLine count before after NoMain = ⊥
 PutsLine count before after Missing = ⊥
 PutsLine count before after (NotShared refuse) = ⊥
@@ -136,6 +143,7 @@ WritesArchive old new faults path archive count before after (Exit code) = (code
 WritesArchive old new faults path archive count before after WriteFault = (((new ≡ old) ⊎ HoldsFront old new path archive) × Rose faults.0 faults.1 × (after ≡ before)) ⊎ (Holds old new path archive × GrowsByFront before after (dumped_line count))
 WritesArchive old new faults path archive count before after Memory = ((new ≡ old) × (after ≡ before)) ⊎ (Holds old new path archive × GrowsByFront before after (dumped_line count))
 WritesArchive old new faults path archive count before after Usage = ⊥
+WritesArchive old new faults path archive count before after (BadText number) = ⊥
 WritesArchive old new faults path archive count before after NoMain = ⊥
 WritesArchive old new faults path archive count before after Missing = ⊥
 WritesArchive old new faults path archive count before after (NotShared refuse) = ⊥
@@ -155,9 +163,47 @@ IsOfArchive WriteFault = ⊤
 IsOfArchive (Limit quantity limit) = ⊤
 IsOfArchive Memory = ⊤
 IsOfArchive Usage = ⊥
+IsOfArchive (BadText number) = ⊥
 IsOfArchive NoMain = ⊥
 IsOfArchive Missing = ⊥
 IsOfArchive (NotShared refuse) = ⊥
 IsOfArchive Stopped = ⊥
 IsOfArchive Unsupported = ⊥
 IsOfArchive ReadFault = ⊥
+
+-- ---- an assembly
+
+abbrev pub file_at : List ℕ → List ℕ → ClassFile
+file_at path bytes = record { path = path; bytes = bytes }
+
+-- Files were written, one after the other; or the first of them, and why not all.
+abbrev pub WritesFiles : {T : Type 0} → Option Contents → Option Contents → ℕ × ℕ → List ClassFile → Result T ClassFault → Type 0
+WritesFiles old new faults files (Ok x) = new ≡ after_files old files
+WritesFiles old new faults files (Err class_faults.Write) = FailsAt old new files × Rose faults.0 faults.1
+WritesFiles old new faults files (Err class_faults.Memory) = WritesSome old new files
+
+-- The count of a store's writes that failed.
+abbrev pub CountsWritten : {T : Type 0} → ℕ → ℕ → Result T ClassFault → Type 0
+CountsWritten before now (Ok x) = now ≡ before
+CountsWritten before now (Err class_faults.Write) = (before ≤ now) × Rose before now
+CountsWritten before now (Err class_faults.Memory) = now ≡ before
+
+abbrev pub end_of_writes : {T : Type 0} → Result T ClassFault → Ended
+end_of_writes (Ok x) = Exit 0
+end_of_writes (Err class_faults.Write) = WriteFault
+end_of_writes (Err class_faults.Memory) = Memory
+
+-- an end that an assembly may have once its text was read
+abbrev pub IsOfText : Ended → Type 0
+IsOfText (Exit code) = ⊤
+IsOfText (BadText line) = ⊤
+IsOfText WriteFault = ⊤
+IsOfText Memory = ⊤
+IsOfText Usage = ⊥
+IsOfText NoMain = ⊥
+IsOfText Missing = ⊥
+IsOfText (NotShared refuse) = ⊥
+IsOfText Stopped = ⊥
+IsOfText Unsupported = ⊥
+IsOfText ReadFault = ⊥
+IsOfText (Limit quantity limit) = ⊥

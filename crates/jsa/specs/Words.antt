@@ -167,9 +167,15 @@ pub record DumpRequest : Type 0 where
   pub archive : List ℕ
   pub list : List ℕ
 
+-- What an assembly is asked for: the path of the text, and the folder that the class files go to.
+pub record AsmRequest : Type 0 where
+  pub text : List ℕ
+  pub folder : List ℕ
+
 pub data Request : Type 0 where
   Run : RunRequest → Request
   Dump : DumpRequest → Request
+  Asm : AsmRequest → Request
 
 -- whether a run with this option is asked to use its archive; a dump is no run
 abbrev pub is_on : Option Sharing → Option Bool
@@ -209,15 +215,33 @@ request_with t [] = option_map Dump (dump_with t)
 request_with t (main ∷ []) = option_map Run (run_with t (internal_name main))
 request_with t (a ∷ b ∷ others) = None
 
--- The grammar of the words. A dump's are its four options; a run's are its options, in any order, and then the main class.
+-- The words of a run or a dump. A dump's are its four options; a run's are its options, in any order, and then the main
+-- class.
+unfoldable pub request_by_options : List (List ℕ) → Option Request
+request_by_options words = request_with (options_from nothing words).0 (options_from nothing words).1
+
+-- The three words of an assembly: --asm, the path of the text and the folder, neither of them empty.
+abbrev pub asm_of : List ℕ → List ℕ → List ℕ → Option AsmRequest
+asm_of option text folder =
+    if bytes_eq option (codes "--asm") && not (length text == 0) && not (length folder == 0) then Some (record { text = text; folder = folder }) else None
+
+unfoldable pub asm_request : List (List ℕ) → Option AsmRequest
+asm_request [] = None
+asm_request (a ∷ []) = None
+asm_request (a ∷ b ∷ []) = None
+asm_request (option ∷ text ∷ folder ∷ []) = asm_of option text folder
+asm_request (a ∷ b ∷ c ∷ d ∷ others) = None
+
+-- The grammar of the words: those of an assembly, a run or a dump. No words are two of them.
 unfoldable pub request_of : List (List ℕ) → Option Request
-request_of words = request_with (options_from nothing words).0 (options_from nothing words).1
+request_of words = option_or (option_map Asm (asm_request words)) (request_by_options words)
 
 -- the run that is asked for, where it is one
 abbrev pub run_of : Option Request → Option RunRequest
 run_of None = None
 run_of (Some (Run run)) = Some run
 run_of (Some (Dump dump)) = None
+run_of (Some (Asm asm)) = None
 
 -- the path of the class file
 abbrev pub path_of : RunRequest → List ℕ

@@ -17,9 +17,9 @@ const RUN_ON: &str = "-Xshare:on -XX:SharedArchiveFile=a.jsa -cp app Main";
 
 // What a command left: its status and what out and err took, as one text, and the store.
 #[derive(Drop)]
-struct Did {
-    told: Vec<u8>,
-    files: MemoryFiles,
+pub(crate) struct Did {
+    pub(crate) told: Vec<u8>,
+    pub(crate) files: MemoryFiles,
 }
 
 fn words_of(alloc: Global, line: &str) -> Result<Vec<String>, Fail> {
@@ -41,7 +41,7 @@ fn told(alloc: Global, status: u8, out: &[u8], err: &[u8]) -> Result<Vec<u8>, Fa
 }
 
 // Does the command of these words over a store.
-fn does(alloc: Global, line: &str, files: MemoryFiles) -> Result<Did, Fail> {
+pub(crate) fn does(alloc: Global, line: &str, files: MemoryFiles) -> Result<Did, Fail> {
     let words = words_of(alloc, line)?;
     let mut out = MemorySink::new(alloc);
     let mut err = MemorySink::new(alloc);
@@ -72,19 +72,23 @@ fn dumped(rt: &impl Abort, alloc: Global) -> Result<MemoryFiles, Fail> {
 }
 
 // What is at a path.
-fn found_at(alloc: Global, files: &mut MemoryFiles, path: &str) -> Option<Vec<u8>> {
+pub(crate) fn found_at(alloc: Global, files: &mut MemoryFiles, path: &str) -> Option<Vec<u8>> {
     match files.read(alloc, path) {
         Ok(found) => found,
         Err(_) => None,
     }
 }
 
-fn bytes_at(alloc: Global, files: &mut MemoryFiles, path: &str) -> Result<Vec<u8>, Fail> {
+pub(crate) fn bytes_at(
+    alloc: Global,
+    files: &mut MemoryFiles,
+    path: &str,
+) -> Result<Vec<u8>, Fail> {
     Ok(found_at(alloc, files, path).ok_or("not there")?)
 }
 
 // The paths whose bytes were handed out, each behind a space.
-fn reads_of(alloc: Global, files: &MemoryFiles) -> Result<String, Fail> {
+pub(crate) fn reads_of(alloc: Global, files: &MemoryFiles) -> Result<String, Fail> {
     let mut reads = String::new(alloc);
     for path in files.reads() {
         reads.push_str(" ")?;

@@ -1,45 +1,48 @@
 //! The top call.
-ghost use Rattle.std.specs.Prelude.{◌≡◌, Some, map};
+ghost use Rattle.std.specs.Prelude.{◌≡◌, ℕ, List, Option, Some, map};
 ghost use Rattle.std.specs.String.{string_bytes};
 ghost use Rattle.jsa.specs.Stores.{contents_told};
 ghost use Rattle.jsa.specs.Lines.{CountsErr};
-ghost use Rattle.jsa.specs.Command.{RunAnswers, run_subject, archive_or, RequestAnswers, Answered, TakesSomeFront, CountsReads, CountsWrites, CountsDump, CountsFor, CanFailWrites, Leaves, ClassFilesStay, steps_of};
+ghost use Rattle.jsa.specs.Command.{RunAnswers, run_subject, archive_or, RequestAnswers, Answered, TakesSomeFront, CountsReads, CountsWrites, CountsDump, CountsFor, CanFailWrites, Leaves, KeepsClassFiles, steps_of};
 ghost use Rattle.jsa_files.specs.Causes.{Rose};
 ghost use Rattle.jsa.specs.Completes.{RequestCompletes};
 ghost use Rattle.jsa.specs.Headline.{RunsAsFromFile};
 ghost use Rattle.jsa.specs.ClassList.{class_list};
 ghost use Rattle.jsa.specs.Dumps.{Listed};
 ghost use Rattle.jsa.specs.Steps.{texts_of};
-ghost use Rattle.jsa.specs.Words.{request_of, Run, Dump};
-ghost use Rattle.jsa.specs.Requests.{command_view, run_view, dump_view};
+ghost use Rattle.jsa.specs.Words.{request_of, Run, Dump, Asm};
+ghost use Rattle.jsa.specs.Requests.{command_view, run_view, dump_view, asm_view};
 
 use crate::archive_run::run_archived;
+use crate::assembling::assemble_file;
 use crate::dump::{dump_names, read_names};
 use crate::ended::Ended;
 use crate::file_run::run_path;
 use crate::gathering::subject_at;
 use crate::lines::tell;
-use crate::words::{Command, DumpWords, RunWords, read_words};
+use crate::words::{AsmWords, Command, DumpWords, RunWords, read_words};
 use jsa_files::{Files, Sink};
 use std::alloc::Global;
 
 /// Does what the words after the program's name ask for, and puts the end's line to `err`. The store comes back with
 /// every answer.
 ///
-/// - `Usage`: the words are neither those of a run nor those of a dump.
+/// - `Usage`: the words are neither those of a run nor those of a dump or an assembly.
+/// - `BadText`: a line of the text of an assembly is outside the grammar; this is the first, counted from 1.
 /// - `NoMain`: no mapped archive holds the main class, and the folder has no file of it.
-/// - `Missing`: the class list of a dump isn't there.
+/// - `Missing`: the class list of a dump or the text of an assembly isn't there.
 /// - `NotShared`: the archive of a run with `-Xshare:on` is refused, for the first cause that holds.
 /// - `Limit`: the first of these that passes its limit in the order in which they are met: `FileSize`, where the archive
-///   of a run, the class list of a dump, a class file of the folder where an archive is given, or the class's file has
-///   more than `MAX_FILE` bytes; `Names`, where the folder has more than `MAX_NAMES` class files and an archive is given;
+///   of a run, the class list of a dump, the text of an assembly, a class file of the folder where an archive is given, or
+///   the class's file has more than `MAX_FILE` bytes; `Names`, where the folder has more than `MAX_NAMES` class files and an archive is given;
 ///   `Classes`, where a dump lists more than 65,535; `ArchiveSize`, where a dump's archive has more than 67,108,864 bytes.
 /// - `Unsupported`: the main class is no class of the first form; a listed name has no file, or one that is no such class
 ///   or has another name inside.
 /// - `Exit(0)`: the class ran, and `out` took what its `main` put; or the archive was written, and `out` took how many
-///   classes it holds.
+///   classes it holds; or each class of the text was written.
 /// - `Stopped`: as many turns were made as the limit, and `main` hasn't returned.
-/// - `ReadFault`, `WriteFault`: the store failed at reading a file, or `out` at a put or the store at writing the archive.
+/// - `ReadFault`, `WriteFault`: the store failed at reading a file, or `out` at a put or the store at writing the archive
+///   or a class file.
 /// - `Memory`: memory ran out; this may come in place of any answer.
 pub fn run_command<F: Files, O: Sink, E: Sink>(
     alloc: Global,
@@ -60,9 +63,9 @@ pub fn run_command<F: Files, O: Sink, E: Sink>(
     // two class files clash.
     ensures headline { RunsAsFromFile (request_of (map string_bytes words.now)) (F.store files) (O.taken out.old) (O.taken out.new) result.0 }
 
-    // Only a dump writes, and only its archive; no file of a class is written.
+    // A dump writes its archive alone, and an assembly the files of its classes; nothing else writes a file of a class.
     ensures leaves { Leaves (request_of (map string_bytes words.now)) (F.store files) (F.store result.1) }
-    ensures class_files { ClassFilesStay (contents_told (F.store files)) (contents_told (F.store result.1)) }
+    ensures class_files { KeepsClassFiles (request_of (map string_bytes words.now)) (contents_told (F.store files)) (contents_told (F.store result.1)) }
 
     // Where memory ran out err took a front of the line of that, or of the answer that it took the place of.
     ensures memory { result.0 ≡ Ended.Memory → TakesSomeFront (RequestAnswers (request_of (map string_bytes words.now)) (F.store files) (F.store result.1) (F.write_faults files, F.write_faults result.1) (O.taken out.old) (O.taken out.new))
@@ -143,6 +146,7 @@ fn do_command<F: Files, O: Sink, E: Sink>(
     match command {
         Command::Run(request) => run_request(alloc, request, files, out, err),
         Command::Dump(request) => dump_request(alloc, request, files, out, err),
+        Command::Asm(request) => assemble_request(alloc, request, files, err),
     }
 }
 
@@ -271,4 +275,29 @@ fn dump_listed<F: Files, O: Sink, E: Sink>(
 {
     let end = dump_names(alloc, request, names, files, out);
     tell(alloc, end.ended, subject_at(names, end.place), 0, err)
+}
+
+// Assembles the text that is asked for, and puts the end's line. Nothing goes to `out`, whatever it took.
+fn assemble_request<F: Files, E: Sink>(
+    alloc: Global,
+    request: &AsmWords,
+    files: &mut F,
+    err: &mut E,
+) -> Ended
+    ensures answer { (out : Option (List ℕ)) → Answered (RequestAnswers (Some (Asm (asm_view request.now))) (F.store files.old) (F.store files.new) (F.write_faults files.old, F.write_faults files.new) out out) (steps_of (Some (Asm (asm_view request.now))))
+        (E.taken err.old) (E.taken err.new) (E.faults err.old) (E.faults err.new) (E.can_fail err.old) result }
+    ensures leaves { Leaves (Some (Asm (asm_view request.now))) (F.store files.old) (F.store files.new) }
+    ensures memory { (out : Option (List ℕ)) (outs : ℕ) → result ≡ Ended.Memory → TakesSomeFront (RequestAnswers (Some (Asm (asm_view request.now))) (F.store files.old) (F.store files.new) (F.write_faults files.old, F.write_faults files.new) out out)
+        (CountsFor (Some (Asm (asm_view request.now))) (F.write_faults files.old) (F.write_faults files.new) outs outs) (steps_of (Some (Asm (asm_view request.now))))
+        (E.taken err.old) (E.taken err.new) (F.read_faults files.old) (F.read_faults files.new) }
+    ensures err_faults { CountsErr (E.faults err.old) (E.faults err.new) result }
+    ensures read_fault { CountsReads (F.read_faults files.old) (F.read_faults files.new) result }
+    ensures write_fault { CountsWrites (F.write_faults files.old) (F.write_faults files.new) result }
+    ensures read_can_fail { result ≡ Ended.ReadFault → F.can_fail files.old }
+    ensures write_can_fail { result ≡ Ended.WriteFault → F.can_fail files.old }
+    ensures files_stay { F.can_fail files.new → F.can_fail files.old }
+    ensures err_stays { E.can_fail err.new → E.can_fail err.old }
+{
+    let ended = assemble_file(alloc, request, files);
+    tell(alloc, ended, request.text.as_bytes(), 0, err)
 }

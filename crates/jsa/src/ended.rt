@@ -8,13 +8,16 @@ use jsa_base::Quantity;
 /// How a command ended.
 #[derive(Clone, Copy, Debug, PartialEq, Eq)]
 pub enum Ended {
-    /// The run ended, with this status. A dump that was written ends with 0.
+    /// The run ended, with this status. A dump or an assembly whose files were written ends with 0.
     Exit(u8),
     /// The words are outside the grammar of commands.
     Usage,
+    /// This line of the text is the first outside the grammar, counted from 1. Where an `end` is missing at the end of the
+    /// text it is the line after the last.
+    BadText(u32),
     /// No mapped archive holds the main class, and the folder has no file of it.
     NoMain,
-    /// The class list isn't there.
+    /// The class list of a dump or the text of an assembly isn't there.
     Missing,
     /// The archive was to be used and is refused, for this reason, which is never `Memory`.
     NotShared(Refuse),
@@ -25,7 +28,7 @@ pub enum Ended {
     Unsupported,
     /// A file could not be read.
     ReadFault,
-    /// The program's output or the archive could not be written.
+    /// The program's output, the archive or a class file could not be written.
     WriteFault,
     /// The quantity is the first that passes its limit, which is the number.
     Limit(Quantity, u64),
@@ -43,6 +46,7 @@ pub fn status(ended: Ended) -> u8
         Ended::NoMain => 4,
         Ended::Missing => 5,
         Ended::NotShared(_) => 6,
+        Ended::BadText(_) => 7,
         Ended::Stopped => 8,
         Ended::Unsupported => 9,
         Ended::ReadFault => 11,

@@ -78,6 +78,13 @@ fn limit_line(alloc: Global, quantity: Quantity, limit: u64) -> Result<Vec<u8>, 
     Vec::from_slice(alloc, line.as_bytes())
 }
 
+fn text_line(alloc: Global, number: u32) -> Result<Vec<u8>, AllocError>
+    ensures { IfOk result (λ line. line.items ≡ codes "line " ++ decimal number ++ codes "\n") }
+{
+    let line = format!(in alloc; "line {number}\n")?;
+    Vec::from_slice(alloc, line.as_bytes())
+}
+
 // The bytes of the line, of which an exit has none.
 #[tactic(auto, unfolding(crate::specs::Lines::line_of))]
 fn line(alloc: Global, ended: Ended, subject: &[u8], steps: u64) -> Result<Vec<u8>, AllocError>
@@ -86,6 +93,7 @@ fn line(alloc: Global, ended: Ended, subject: &[u8], steps: u64) -> Result<Vec<u
     match ended {
         Ended::Exit(_) => Ok(Vec::new(alloc)),
         Ended::Usage => Vec::from_slice(alloc, b"usage\n"),
+        Ended::BadText(number) => text_line(alloc, number),
         Ended::NoMain => around(alloc, "no main in ", subject, "\n"),
         Ended::Missing => around(alloc, "missing ", subject, "\n"),
         Ended::NotShared(refuse) => refused_line(alloc, subject, refuse),
@@ -189,6 +197,7 @@ mod tests {
         for (ended, line) in [
             (Ended::Exit(7), ""),
             (Ended::Usage, "usage\n"),
+            (Ended::BadText(4_294_967_295), "line 4294967295\n"),
             (Ended::NoMain, "no main in a/B\n"),
             (Ended::Stopped, "stopped after 9 steps\n"),
             (Ended::Unsupported, "unsupported a/B\n"),

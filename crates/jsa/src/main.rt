@@ -1,9 +1,12 @@
-//! Runs one class from its file or from an archive, and dumps classes into an archive.
+//! Runs one class from its file or from an archive, dumps classes into an archive, and assembles texts into class files.
 #![tactic(auto)]
 
 mod archive_run;
 #[cfg(test)]
 mod archive_tests;
+#[cfg(test)]
+mod asm_tests;
+mod assembling;
 mod class_list;
 mod command;
 mod dump;
@@ -12,6 +15,8 @@ mod faults;
 mod file_run;
 mod folder;
 mod gathering;
+#[cfg(test)]
+mod hello_tests;
 mod lines;
 #[cfg(test)]
 mod test_classes;

@@ -5,8 +5,8 @@ ghost use Rattle.std.specs.List.{list_all, join_with_byte};
 ghost use Rattle.std.specs.Option.{option_copied, option_map};
 ghost use Rattle.std.specs.Str.{byte};
 ghost use Rattle.std.specs.String.{string_bytes};
-ghost use Rattle.jsa.specs.Words.{is_numeral, numeral, behind, number_of, steps_option, archive_path, archive_option, list_option, sharing_option, folder_option, once, with_folder, with_archive, with_list, with_steps, with_sharing, with_word, with_words, options_from, nothing, is_on, is_dump, run_with, dump_with, request_with, ends_in, has_no_colon, is_folder, is_archive_path, is_word_byte, is_segment, segments_of, internal_name, request_of, path_of, Run, Dump};
-ghost use Rattle.jsa.specs.Requests.{command_view, run_view, dump_view, is_on_share, taken_view, left_view};
+ghost use Rattle.jsa.specs.Words.{is_numeral, numeral, behind, number_of, steps_option, archive_path, archive_option, list_option, sharing_option, folder_option, once, with_folder, with_archive, with_list, with_steps, with_sharing, with_word, with_words, options_from, nothing, is_on, is_dump, run_with, dump_with, request_with, ends_in, has_no_colon, is_folder, is_archive_path, is_word_byte, is_segment, segments_of, internal_name, request_by_options, asm_of, asm_request, request_of, path_of, Run, Dump};
+ghost use Rattle.jsa.specs.Requests.{command_view, run_view, dump_view, asm_view, is_on_share, taken_view, left_view};
 
 use std::alloc::{AllocError, Global};
 
@@ -45,6 +45,15 @@ pub struct DumpWords {
     pub list: String,
 }
 
+/// What an assembly is asked for.
+#[derive(Debug, Drop)]
+pub struct AsmWords {
+    /// The path of the text.
+    pub text: String,
+    /// The folder that the class files go to, as it was given.
+    pub folder: String,
+}
+
 /// What the words ask for.
 #[derive(Debug, Drop)]
 pub enum Command {
@@ -52,6 +61,8 @@ pub enum Command {
     Run(RunWords),
     /// An archive is dumped.
     Dump(DumpWords),
+    /// A text is assembled.
+    Asm(AsmWords),
 }
 
 /// How many turns a run makes at most where the words don't say it.
@@ -525,22 +536,71 @@ fn request_with(
     run(alloc, taken, main.as_str())
 }
 
-/// What the words ask for, or `None` where they are outside the grammar, which is that of a run or of a dump.
+// What the words of a run or a dump ask for.
+#[tactic(auto, unfolding(crate::specs::Words::request_by_options))]
+fn command_by_options(alloc: Global, words: &[String]) -> Result<Option<Command>, AllocError>
+    ensures { IfOk result (λ command. option_map command_view command ≡ request_by_options (map string_bytes words.now)) }
+{
+    let (taken, others) = options(words);
+    request_with(alloc, taken, others)
+}
+
+// The assembly of a text into a folder, where the word before them is the option.
+fn asm_of(
+    alloc: Global,
+    option: &str,
+    text: &str,
+    folder: &str,
+) -> Result<Option<AsmWords>, AllocError>
+    ensures { IfOk result (λ asm. option_map asm_view asm ≡ asm_of option.now text.now folder.now) }
+{
+    if !(option == "--asm" && !text.is_empty() && !folder.is_empty()) {
+        return Ok(None);
+    }
+    let text = String::from_str(alloc, text)?;
+    let folder = String::from_str(alloc, folder)?;
+    Ok(Some(AsmWords { text, folder }))
+}
+
+#[tactic(auto, unfolding(crate::specs::Words::asm_request))]
+fn asm_words(alloc: Global, words: &[String]) -> Result<Option<AsmWords>, AllocError>
+    ensures { IfOk result (λ asm. option_map asm_view asm ≡ asm_request (map string_bytes words.now)) }
+{
+    let [option, others @ ..] = words else {
+        return Ok(None);
+    };
+    let [text, others @ ..] = others else {
+        return Ok(None);
+    };
+    let [folder, others @ ..] = others else {
+        return Ok(None);
+    };
+    let [] = others else {
+        return Ok(None);
+    };
+    asm_of(alloc, option.as_str(), text.as_str(), folder.as_str())
+}
+
+/// What the words ask for, or `None` where they are outside the grammar, which is that of a run, of a dump or of an
+/// assembly.
 ///
 /// A run: options in any order, each at most once, then a main class and nothing else. The options are `-cp` with a
 /// folder, which has to be there, `--steps=N`, one of `-Xshare:auto` and `-Xshare:on`, and `-XX:SharedArchiveFile=A`.
 /// A dump: `-Xshare:dump`, `-XX:SharedClassListFile=F`, `-XX:SharedArchiveFile=A` and `-cp` with a folder, in any order,
 /// each once, and nothing else.
+/// An assembly: `--asm`, the path of a text and a folder, neither of them empty, and nothing else.
 ///
-/// The folder isn't empty, isn't `*`, holds no `:` and doesn't end in `.jar` or `.zip`. A and F aren't empty, hold no
+/// The folder of a run or a dump isn't empty, isn't `*`, holds no `:` and doesn't end in `.jar` or `.zip`. A and F aren't empty, hold no
 /// `:` and don't end in `.class`. N is 1 to 20 decimal digits, or `0x` and 1 to 16 hexadecimal digits, and below 2^64.
 /// The main class consists of ASCII letters, digits, `_` and `$` in segments between dots, none of them empty.
 #[tactic(auto, unfolding(crate::specs::Words::request_of))]
 pub fn read_words(alloc: Global, words: &[String]) -> Result<Option<Command>, AllocError>
     ensures { IfOk result (λ command. option_map command_view command ≡ request_of (map string_bytes words.now)) }
 {
-    let (taken, others) = options(words);
-    request_with(alloc, taken, others)
+    match asm_words(alloc, words)? {
+        Some(asm) => Ok(Some(Command::Asm(asm))),
+        None => command_by_options(alloc, words),
+    }
 }
 
 /// The path of the main class's file: its folder, a slash, its internal name and `.class`.
@@ -615,6 +675,7 @@ mod tests {
             Some(Command::Dump(dump)) => {
                 format!(in alloc; "dump {} {} {}", dump.folder, dump.archive, dump.list)?
             }
+            Some(Command::Asm(asm)) => format!(in alloc; "asm {} {}", asm.text, asm.folder)?,
         })
     }
 
@@ -625,6 +686,7 @@ mod tests {
             match read_words(rt.alloc(), &words)? {
                 Some(Command::Run(run)) => assert_eq!(rt; class_path(&run)?.as_str(), path),
                 Some(Command::Dump(_dump)) => assert!(rt; false),
+                Some(Command::Asm(_asm)) => assert!(rt; false),
                 None => assert_eq!(rt; path, "", "at {folder} {main}"),
             }
         }
@@ -649,6 +711,18 @@ mod tests {
 -cp d -XX:SharedArchiveFile=a -XX:SharedClassListFile=l -Xshare:dump = dump d a l
 -XX:SharedClassListFile=l -cp d -Xshare:dump -XX:SharedArchiveFile=a = dump d a l
 -XX:SharedArchiveFile=a -Xshare:dump -cp d -XX:SharedClassListFile=a = dump d a a
+--asm a.txt classes = asm a.txt classes
+--asm --asm -cp = asm --asm -cp
+--asm a:b.class x.jar = asm a:b.class x.jar
+--asm =
+--asm a.txt =
+--asm a.txt classes x =
+--asm  classes =
+--asm a.txt  =
+--ASM a.txt classes =
+--asm=a.txt classes x =
+-cp app --asm a.txt classes =
+--asm a.txt -cp app =
 -cp =
 Main =
 -cp app =
