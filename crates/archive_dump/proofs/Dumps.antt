@@ -8,9 +8,9 @@ use Rattle.archive_header.specs.declared.header.Header.{Header}
 use Rattle.archive_header.specs.declared.folders.Folders.{Folders}
 use Rattle.archive_header.specs.Header.{fields, header_bytes, FitsHeader}
 use Rattle.archive_header.specs.ManifestBytes.{manifest_bytes, SpellsManifest}
-use Rattle.class_record.specs.declared.class.PlainClass.{PlainClass}
-use Rattle.class_record.specs.Records.{classes_text, SpellsClasses}
-use Rattle.class_record.specs.Archives.{header_for, archive_header, archive_text}
+use Rattle.plain_classes.specs.declared.class.PlainClass.{PlainClass}
+use Rattle.plain_classes.specs.Records.{classes_text, SpellsClasses}
+use Rattle.plain_classes.specs.Archives.{header_for, archive_header, archive_text}
 use Rattle.archive_dump.specs.Dumping.{IsFew, IsSmall, IsDump, DumpsAreArchives}
 
 -- ---- how many bytes

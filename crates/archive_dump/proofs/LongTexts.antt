@@ -10,9 +10,9 @@ use Rattle.archive_header.specs.declared.folders.Folder.{Folder}
 use Rattle.archive_header.specs.declared.folders.Folders.{Folders}
 use Rattle.archive_header.specs.ManifestBytes.{file_bytes, folder_bytes, one_or_none, all_folders, counts, unpadded, padding, manifest_bytes, has_short_name}
 use Rattle.archive_header.specs.ManifestBytes as manifests
-use Rattle.class_record.specs.declared.class.PlainClass.{PlainClass}
-use Rattle.class_record.specs.Records.{class_text, classes_text}
-use Rattle.class_record.specs.Records as records
+use Rattle.plain_classes.specs.declared.class.PlainClass.{PlainClass}
+use Rattle.plain_classes.specs.Records.{class_text, classes_text}
+use Rattle.plain_classes.specs.Records as records
 use Rattle.archive_dump.specs.Dumping.{IsSmall}
 use Rattle.archive_dump.proofs.Dumps.{length-archive}
 

@@ -5,9 +5,9 @@ use Rattle.std.specs.List.{AllByRecursion}
 use Rattle.archive_header.specs.declared.folders.Folders.{Folders}
 use Rattle.archive_header.specs.Header.{FitsHeader}
 use Rattle.archive_header.specs.ManifestBytes.{manifest_bytes, SpellsManifest}
-use Rattle.class_record.specs.declared.class.PlainClass.{PlainClass}
-use Rattle.class_record.specs.Records.{FitsRecord, IsRecord, names_of, are_distinct}
-use Rattle.class_record.specs.Archives.{archive_header, archive_text, has_one_folder, IsArchive}
+use Rattle.plain_classes.specs.declared.class.PlainClass.{PlainClass}
+use Rattle.plain_classes.specs.Records.{FitsRecord, IsRecord, names_of, are_distinct}
+use Rattle.plain_classes.specs.Archives.{archive_header, archive_text, has_one_folder, IsArchive}
 use Rattle.archive_dump.specs.declared.fault.DumpFault.{DumpFault}
 use Rattle.archive_dump.specs.declared.fault.DumpFault.TheVariants.{TooMany, TooLarge, Memory}
 

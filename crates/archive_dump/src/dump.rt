@@ -1,14 +1,14 @@
 //! Writes an archive of classes.
 ghost use Rattle.std.specs.Prelude.{◌≡◌, ◌≤◌, ◌<◌, length, IsTrue, IfOk};
 ghost use Rattle.archive_header.specs.ManifestBytes as manifests;
-ghost use Rattle.class_record.specs.Records as records;
+ghost use Rattle.plain_classes.specs.Records as records;
 ghost use Rattle.archive_dump.specs.Dumping as spec;
 
 use crate::fault::DumpFault;
 use crate::layout::laid_out;
 use crate::size::is_too_large;
 use archive_header::{Manifest, write_manifest};
-use class_record::{PlainClass, classes_size, have_short_texts, write_classes};
+use plain_classes::{PlainClass, classes_size, have_short_texts, write_classes};
 use std::alloc::Global;
 
 /// How many classes an archive may have.

@@ -2,7 +2,7 @@
 ghost use Rattle.std.specs.Prelude.{◌≡◌, ◌++◌, IfOk};
 ghost use Rattle.sha2.specs.Sha256.{sha256};
 ghost use Rattle.archive_header.specs.Header.{header_bytes, FitsHeader};
-ghost use Rattle.class_record.specs.Archives.{header_for};
+ghost use Rattle.plain_classes.specs.Archives.{header_for};
 
 use archive_header::{FORMAT, Header, write_header};
 use sha2::{Digest, Sha256};

@@ -1,7 +1,7 @@
 // What no contract says: the bytes of an archive, and that one is written where memory suffices.
 use crate::{DumpFault, dump_static, dumps_are_archives};
 use archive_header::{Manifest, read_manifest};
-use class_record::PlainClass;
+use plain_classes::PlainClass;
 use sha2::{Digest, Sha256};
 use sqlite_items::Items;
 use std::alloc::Global;

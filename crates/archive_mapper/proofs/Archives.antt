@@ -6,9 +6,9 @@ use Rattle.archive_header.specs.declared.folders.Folders.{Folders}
 use Rattle.archive_header.specs.declared.refuse.Refuse.{Refuse}
 use Rattle.archive_header.specs.Header.{header_bytes, FitsHeader}
 use Rattle.archive_header.specs.ManifestBytes.{manifest_bytes, SpellsManifest}
-use Rattle.class_record.specs.declared.class.PlainClass.{PlainClass}
-use Rattle.class_record.specs.Records.{classes_text}
-use Rattle.class_record.specs.Archives.{header_for, archive_header, archive_text, IsArchive}
+use Rattle.plain_classes.specs.declared.class.PlainClass.{PlainClass}
+use Rattle.plain_classes.specs.Records.{classes_text}
+use Rattle.plain_classes.specs.Archives.{header_for, archive_header, archive_text, IsArchive}
 use Rattle.archive_mapper.specs.Mapping.{StandsAlone, IsMalformed, HasChanged, HasChange, IsUnchanged}
 use Rattle.archive_mapper.specs.Fronts.{front_of, is_plain}
 use Rattle.archive_mapper.specs.Parts.{AreClasses, IsPlainManifest}

@@ -8,7 +8,7 @@ use Rattle.archive_header.specs.declared.header.Header.{Header}
 use Rattle.archive_header.specs.Header.{fields, header_bytes, FitsHeader, header_of}
 use Rattle.archive_header.proofs.Headers.{read_again}
 use Rattle.archive_header.proofs.Manifests.{both, joins}
-use Rattle.class_record.specs.Archives.{header_for}
+use Rattle.plain_classes.specs.Archives.{header_for}
 use Rattle.archive_mapper.specs.Mapping.{body_digest, StandsAlone}
 use Rattle.archive_mapper.specs.Fronts.{front_of, has_plain_numbers, has_whole_regions, has_its_bytes, is_plain}
 use Rattle.archive_mapper.proofs.Fronts.{same_bytes, bytes_same, header_read, front_alone, alone_first}

@@ -7,9 +7,9 @@ use Rattle.archive_header.specs.declared.folders.Folders.{Folders}
 use Rattle.archive_header.specs.declared.refuse.Refuse.{Refuse}
 use Rattle.archive_header.specs.declared.refuse.Refuse.TheVariants.{Short, Magic, Version, Digest, Layer, Malformed, Path, Base, Memory}
 use Rattle.archive_header.specs.Folders.{IsFirstChanged}
-use Rattle.class_record.specs.declared.class.PlainClass.{PlainClass}
-use Rattle.class_record.specs.Archives.{archive_header, IsArchive}
-use Rattle.class_record.proofs.Archives.{one_is}
+use Rattle.plain_classes.specs.declared.class.PlainClass.{PlainClass}
+use Rattle.plain_classes.specs.Archives.{archive_header, IsArchive}
+use Rattle.plain_classes.proofs.Archives.{one_is}
 use Rattle.archive_mapper.specs.Mapping.{IsMalformed, HasChange, IsUnchanged, Maps, IsWant, MapsAsOne, ArchivesAreMapped}
 use Rattle.archive_mapper.specs.Fronts.{front_of}
 use Rattle.archive_mapper.proofs.Fronts.{header_first, alone_first, body_first, layer_first}

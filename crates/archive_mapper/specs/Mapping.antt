@@ -7,8 +7,8 @@ use Rattle.archive_header.specs.declared.refuse.Refuse.{Refuse}
 use Rattle.archive_header.specs.declared.refuse.Refuse.TheVariants.{Short, Magic, Version, Digest, Layer, Malformed, Path, Base, Memory}
 use Rattle.archive_header.specs.Header.{header_of}
 use Rattle.archive_header.specs.Folders.{IsFirstChanged}
-use Rattle.class_record.specs.declared.class.PlainClass.{PlainClass}
-use Rattle.class_record.specs.Archives.{IsArchive}
+use Rattle.plain_classes.specs.declared.class.PlainClass.{PlainClass}
+use Rattle.plain_classes.specs.Archives.{IsArchive}
 
 -- ---- what has held so far
 

@@ -3,9 +3,9 @@ use Rattle.std.specs.Prelude.{ℕ, List, IsTrue}
 use Rattle.std.specs.List.{AllByRecursion}
 use Rattle.archive_header.specs.declared.folders.Folders.{Folders}
 use Rattle.archive_header.specs.ManifestBytes.{SpellsManifest}
-use Rattle.class_record.specs.declared.class.PlainClass.{PlainClass}
-use Rattle.class_record.specs.Records.{SpellsClasses, IsRecord, names_of, are_distinct}
-use Rattle.class_record.specs.Archives.{has_one_folder}
+use Rattle.plain_classes.specs.declared.class.PlainClass.{PlainClass}
+use Rattle.plain_classes.specs.Records.{SpellsClasses, IsRecord, names_of, are_distinct}
+use Rattle.plain_classes.specs.Archives.{has_one_folder}
 
 -- Each is a class of the first form with its own name inside, and no name stands twice.
 pub record AreRecords (classes : List PlainClass) : Type 0 where

@@ -8,7 +8,7 @@ use crate::front::{body, front};
 use crate::parts::{classes_in, manifest_in};
 use crate::plain::is_plain;
 use archive_header::{Header, Manifest, Refuse, first_changed};
-use class_record::PlainClass;
+use plain_classes::PlainClass;
 use sqlite_items::Items;
 use std::alloc::Global;
 

@@ -2,12 +2,12 @@
 ghost use Rattle.std.specs.Prelude.{◌≡◌, ℕ, List, Some, IfOk};
 ghost use Rattle.std.specs.Option.{IfSome};
 ghost use Rattle.archive_header.specs.declared.folders.Folders.{Folders};
-ghost use Rattle.class_record.specs.declared.class.PlainClass.{PlainClass};
-ghost use Rattle.class_record.specs.Outcomes.{Tells};
+ghost use Rattle.plain_classes.specs.declared.class.PlainClass.{PlainClass};
+ghost use Rattle.plain_classes.specs.Outcomes.{Tells};
 ghost use Rattle.archive_mapper.specs.Parts as spec;
 
 use archive_header::{Manifest, read_manifest};
-use class_record::{PlainClass, are_distinct, are_named, has_one_folder, read_classes};
+use plain_classes::{PlainClass, are_distinct, are_named, has_one_folder, read_classes};
 use sqlite_items::Items;
 use std::alloc::{AllocError, Global};
 

@@ -12,11 +12,11 @@ use Rattle.jsa_files.specs.Store.{Contents, Store, AnswersAsTold, KeepsSize}
 use Rattle.loader_rules.specs.Lists.{FolderLists}
 use Rattle.archive_header.specs.declared.folders.Folders.{Folders}
 use Rattle.archive_header.specs.Manifests.{MakeAnswer, MakesAsTold, MakesSmall}
-use Rattle.class_record.specs.declared.class.PlainClass.{PlainClass}
-use Rattle.class_record.specs.Records.{class_in}
+use Rattle.plain_classes.specs.declared.class.PlainClass.{PlainClass}
+use Rattle.plain_classes.specs.Records.{class_in}
 use Rattle.archive_mapper.specs.Mapping.{Maps, IsMapped}
 use Rattle.archive_dump.proofs.Dumps.{length-archive}
-use Rattle.class_record.specs.Records.{classes_text}
+use Rattle.plain_classes.specs.Records.{classes_text}
 use Rattle.jsa_base.specs.LowFirst.{low_text}
 use Rattle.std.specs.Str.{bytes_eq}
 use Rattle.std.proofs.lemmas.List.{length-append}

@@ -20,9 +20,9 @@ use Rattle.archive_header.specs.Manifests.{limit_met}
 use Rattle.classfile_reader.specs.declared.program.Program.{Program}
 use Rattle.classfile_reader.specs.FirstForm.{IsFirstForm}
 use Rattle.classfile_reader.proofs.Programs.{one_is}
-use Rattle.class_record.specs.declared.class.PlainClass.{PlainClass}
-use Rattle.class_record.specs.Records.{class_in}
-use Rattle.class_record.specs.Archives.{archive_text}
+use Rattle.plain_classes.specs.declared.class.PlainClass.{PlainClass}
+use Rattle.plain_classes.specs.Records.{class_in}
+use Rattle.plain_classes.specs.Archives.{archive_text}
 use Rattle.archive_mapper.specs.Mapping.{Maps, IsWant}
 use Rattle.archive_mapper.proofs.Stages.{as_one}
 use Rattle.vm_run.specs.declared.machine.End.{End}

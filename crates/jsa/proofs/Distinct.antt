@@ -4,8 +4,8 @@ use Rattle.std.specs.List.{AllByRecursion}
 use Rattle.std.specs.Str.{bytes_eq}
 use Rattle.jsa_files.specs.Store.{Contents}
 use Rattle.classfile_reader.specs.FirstForm.{IsClassNamed}
-use Rattle.class_record.specs.declared.class.PlainClass.{PlainClass}
-use Rattle.class_record.specs.Records.{is_among, are_distinct, names_of, IsRecord}
+use Rattle.plain_classes.specs.declared.class.PlainClass.{PlainClass}
+use Rattle.plain_classes.specs.Records.{is_among, are_distinct, names_of, IsRecord}
 use Rattle.jsa.specs.ClassList.{distinct, listed_names, class_list}
 use Rattle.jsa.specs.Dumps.{HasClasses}
 

@@ -15,8 +15,8 @@ use Rattle.jsa.specs.ClassList.{class_list}
 use Rattle.std.proofs.lemmas.Bool.{cases_lt}
 use Rattle.std.specs.Prelude.{◌<◌, IsTrue}
 use Rattle.archive_header.specs.declared.folders.Folders.{Folders}
-use Rattle.class_record.specs.declared.class.PlainClass.{PlainClass}
-use Rattle.class_record.specs.Archives.{archive_text, has_one_folder}
+use Rattle.plain_classes.specs.declared.class.PlainClass.{PlainClass}
+use Rattle.plain_classes.specs.Archives.{archive_text, has_one_folder}
 use Rattle.archive_dump.specs.Dumping.{IsFew, IsSmall, IsDump}
 use Rattle.archive_dump.proofs.Dumps.{are_archives}
 use Rattle.jsa.specs.Dumps.{Listed, Prepared, Gathered, Dumped, HasClasses, names_listed, IsFirst, BeginsToWrite, DumpAnswers}

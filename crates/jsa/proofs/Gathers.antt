@@ -8,7 +8,7 @@ use Rattle.jsa_files.specs.declared.fault.FilesFault.TheVariants as faults
 use Rattle.jsa_files.specs.Store.{Contents, Store, AnswersAsTold, KeepsSize}
 use Rattle.jsa_names.specs.Paths as names
 use Rattle.classfile_reader.specs.FirstForm.{IsClassNamed}
-use Rattle.class_record.specs.declared.class.PlainClass.{PlainClass}
+use Rattle.plain_classes.specs.declared.class.PlainClass.{PlainClass}
 use Rattle.jsa.specs.declared.ended.Ended.{Ended}
 use Rattle.jsa.specs.declared.ended.Ended.TheVariants.{Exit, Usage, BadText, NoMain, Missing, NotShared, Stopped, Unsupported, ReadFault, WriteFault, Limit, Memory}
 use Rattle.jsa.specs.Words.{DumpRequest}

@@ -24,10 +24,10 @@ use Rattle.archive_header.specs.declared.refuse.Refuse.{Refuse}
 use Rattle.archive_header.specs.declared.refuse.Refuse.TheVariants as refusals
 use Rattle.archive_header.specs.Folders.{IsFirstChanged}
 use Rattle.archive_header.specs.Manifests.{path_in, listed, listed_at, folder_now, manifest_now}
-use Rattle.class_record.specs.declared.class.PlainClass.{PlainClass}
-use Rattle.class_record.specs.Records.{class_in}
-use Rattle.class_record.specs.Archives.{IsArchive}
-use Rattle.class_record.proofs.Archives.{one_is}
+use Rattle.plain_classes.specs.declared.class.PlainClass.{PlainClass}
+use Rattle.plain_classes.specs.Records.{class_in}
+use Rattle.plain_classes.specs.Archives.{IsArchive}
+use Rattle.plain_classes.proofs.Archives.{one_is}
 use Rattle.archive_mapper.specs.Mapping.{Maps}
 use Rattle.archive_mapper.proofs.Stages.{as_one}
 use Rattle.jsa.specs.declared.ended.Ended.{Ended}

@@ -9,8 +9,8 @@ use Rattle.archive_header.specs.declared.folders.Folders.{Folders}
 use Rattle.archive_header.specs.declared.refuse.Refuse.{Refuse}
 use Rattle.archive_header.specs.declared.refuse.Refuse.TheVariants as refusals
 use Rattle.archive_header.specs.Manifests.{MakeAnswer, Makes}
-use Rattle.class_record.specs.declared.class.PlainClass.{PlainClass}
-use Rattle.class_record.specs.Records.{class_in}
+use Rattle.plain_classes.specs.declared.class.PlainClass.{PlainClass}
+use Rattle.plain_classes.specs.Records.{class_in}
 use Rattle.archive_mapper.specs.Mapping.{Maps}
 use Rattle.jsa.specs.declared.ended.Ended.{Ended}
 use Rattle.jsa.specs.declared.ended.Ended.TheVariants.{Exit, Usage, BadText, NoMain, Missing, NotShared, Stopped, Unsupported, ReadFault, WriteFault, Limit, Memory}

@@ -7,7 +7,7 @@ use Rattle.jsa_files.specs.declared.TheConstants.{MAX_FILE, MAX_NAMES}
 use Rattle.jsa_files.specs.Store.{Contents, Store}
 use Rattle.jsa_files.specs.Sinks.{GrowsBy}
 use Rattle.archive_header.specs.declared.refuse.Refuse.{Refuse}
-use Rattle.class_record.specs.Archives.{archive_text}
+use Rattle.plain_classes.specs.Archives.{archive_text}
 use Rattle.classfile_reader.specs.declared.program.Program.{Program}
 use Rattle.vm_run.specs.declared.machine.End.{End}
 use Rattle.vm_run.specs.declared.machine.End.TheVariants as ends

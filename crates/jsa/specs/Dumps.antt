@@ -10,8 +10,8 @@ use Rattle.jsa_files.specs.Sinks.{GrowsBy, GrowsByFront}
 use Rattle.jsa_names.specs.Paths as names
 use Rattle.archive_header.specs.declared.folders.Folders.{Folders}
 use Rattle.classfile_reader.specs.FirstForm.{IsClassNamed}
-use Rattle.class_record.specs.declared.class.PlainClass.{PlainClass}
-use Rattle.class_record.specs.Archives.{IsArchive, archive_text}
+use Rattle.plain_classes.specs.declared.class.PlainClass.{PlainClass}
+use Rattle.plain_classes.specs.Archives.{IsArchive, archive_text}
 use Rattle.jsa.specs.declared.ended.Ended.{Ended}
 use Rattle.jsa.specs.declared.ended.Ended.TheVariants.{Exit, Usage, BadText, NoMain, Missing, NotShared, Stopped, Unsupported, ReadFault, WriteFault, Limit, Memory}
 use Rattle.jsa.specs.Words.{DumpRequest}

@@ -6,10 +6,10 @@ use Rattle.jsa_files.specs.declared.TheConstants.{MAX_FILE}
 use Rattle.jsa_files.specs.Causes.{Rose}
 use Rattle.jsa_files.specs.Store.{Contents}
 use Rattle.jsa_files.specs.Sinks.{GrowsBy, GrowsByFront}
-use Rattle.class_record.specs.declared.class.PlainClass.{PlainClass}
+use Rattle.plain_classes.specs.declared.class.PlainClass.{PlainClass}
 use Rattle.jsa_names.specs.Paths as names
 use Rattle.classfile_reader.specs.FirstForm.{IsClassNamed}
-use Rattle.class_record.specs.Records.{class_in}
+use Rattle.plain_classes.specs.Records.{class_in}
 use Rattle.jsa.specs.declared.ended.Ended.{Ended}
 use Rattle.jsa.specs.declared.ended.Ended.TheVariants.{Exit, Usage, BadText, NoMain, Missing, NotShared, Stopped, Unsupported, ReadFault, WriteFault, Limit, Memory}
 use Rattle.jsa.specs.declared.archive_run.ArchiveAndManifest.{ArchiveAndManifest}

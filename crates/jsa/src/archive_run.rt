@@ -17,8 +17,8 @@ use crate::folder::folder_manifest;
 use crate::words::{RunWords, Share};
 use archive_header::{Manifest, Refuse};
 use archive_mapper::map;
-use class_record::{PlainClass, class_in};
 use jsa_files::{Files, Sink};
+use plain_classes::{PlainClass, class_in};
 use std::alloc::Global;
 
 /// What a run knows before it takes its class: the bytes of the archive's file, and the manifest of the folder.

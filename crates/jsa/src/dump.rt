@@ -1,7 +1,7 @@
 //! Dumps the classes of a list into an archive.
 ghost use Rattle.std.specs.Prelude.{◌≡◌, ◌≢◌, ◌⊎◌, ℕ, List, IsTrue, IfOk, IfErr, IsErrOf};
 ghost use Rattle.std.specs.String.{string_bytes};
-ghost use Rattle.class_record.specs.Archives.{has_one_folder};
+ghost use Rattle.plain_classes.specs.Archives.{has_one_folder};
 ghost use Rattle.jsa.specs.ClassList.{class_list};
 ghost use Rattle.jsa.specs.Stores.{contents_told};
 ghost use Rattle.jsa.specs.Dumps.{Listed, Prepared, Gathered, DumpAnswers, dumped_line, names_listed};
@@ -17,9 +17,9 @@ use crate::gathering::{DumpEnd, gather};
 use crate::words::DumpWords;
 use archive_dump::{DumpFault, dump_static};
 use archive_header::Manifest;
-use class_record::PlainClass;
 use jsa_base::Quantity;
 use jsa_files::{Files, FilesFault, Sink, SinkFault};
+use plain_classes::PlainClass;
 use sqlite_items::Items;
 use std::alloc::{AllocError, Global};
 

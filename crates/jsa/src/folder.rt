@@ -2,7 +2,7 @@
 ghost use Rattle.std.specs.Prelude.{◌≡◌, IsTrue, IfOk, IsErrOf};
 ghost use Rattle.jsa_files.specs.Causes.{CountsFailure};
 ghost use Rattle.archive_header.specs.Manifests.{MakesSmall};
-ghost use Rattle.class_record.specs.Archives.{has_one_folder};
+ghost use Rattle.plain_classes.specs.Archives.{has_one_folder};
 ghost use Rattle.jsa.specs.Stores.{contents_told};
 ghost use Rattle.jsa.specs.Archived.{lists_of, MakesOf};
 

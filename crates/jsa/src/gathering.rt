@@ -1,17 +1,17 @@
 //! Reads the classes that a dump lists.
 ghost use Rattle.std.specs.Prelude.{◌≡◌, IfOk, IfErr, IsErrOf};
 ghost use Rattle.classfile_reader.specs.FirstForm.{IsClassNamed};
-ghost use Rattle.class_record.specs.Outcomes.{Tells};
+ghost use Rattle.plain_classes.specs.Outcomes.{Tells};
 ghost use Rattle.jsa.specs.Stores.{contents_told};
 ghost use Rattle.jsa.specs.Steps.{texts_of, IsClassIn, HasAtPath, HasAs, GathersAs, subject_at};
 ghost use Rattle.jsa.specs.Command.{CountsReads};
 
 use crate::ended::Ended;
 use crate::faults::end_of;
-use class_record::PlainClass;
 use classfile_reader::{FormFault, read_name};
 use jsa_files::Files;
 use jsa_names::path_of;
+use plain_classes::PlainClass;
 use sqlite_items::Items;
 use std::alloc::{AllocError, Global};
 

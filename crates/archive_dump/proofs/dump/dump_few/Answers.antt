@@ -1,7 +1,7 @@
 use Rattle.std.proofs.Common.{true, false, List, ℕ, length, sym, ap, subst}
 use Rattle.archive_header.specs.declared.folders.Folders.{Folders}
 use Rattle.archive_header.specs.ManifestBytes.{manifest_bytes, SpellsManifest}
-use Rattle.class_record.specs.Records.{classes_text, SpellsClasses}
+use Rattle.plain_classes.specs.Records.{classes_text, SpellsClasses}
 use Rattle.archive_dump.proofs.Dumps.{is_large, is_dump, tested}
 use Rattle.archive_dump.proofs.dump.dump_few.Goals as goal
 

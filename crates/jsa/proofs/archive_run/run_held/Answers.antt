@@ -1,7 +1,7 @@
 use Rattle.std.proofs.Common.{◌≡◌, ◌∙◌, sym, ap, refl, inl, Some, None}
 use Rattle.jsa.specs.Stores.{contents_told, reads_told}
 use Rattle.jsa.specs.Requests.{run_view}
-use Rattle.class_record.specs.Records.{class_in}
+use Rattle.plain_classes.specs.Records.{class_in}
 use Rattle.jsa.proofs.Archives.{from_archive, from_file}
 use Rattle.jsa.proofs.archive_run.run_held.Goals as goal
 

@@ -2,7 +2,7 @@ use Rattle.std.proofs.Common.{◌≤◌, sym, subst, Some, length, List, [], ℕ
 use Rattle.std.specs.Prelude.{Result}
 use Rattle.archive_header.specs.declared.refuse.Refuse.{Refuse}
 use Rattle.jsa_files.specs.declared.TheConstants.{MAX_FILE}
-use Rattle.class_record.specs.declared.class.PlainClass.{PlainClass}
+use Rattle.plain_classes.specs.declared.class.PlainClass.{PlainClass}
 use Rattle.archive_mapper.specs.Mapping.{Maps}
 use Rattle.jsa.specs.Steps.{IsSmallIn}
 use Rattle.jsa.specs.Stores.{contents_told, reads_told}

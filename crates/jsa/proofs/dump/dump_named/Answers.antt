@@ -1,5 +1,5 @@
 use Rattle.std.proofs.Common.{◌≡◌, ◌∙◌, sym, subst, ℕ, List}
-use Rattle.class_record.specs.declared.class.PlainClass.{PlainClass}
+use Rattle.plain_classes.specs.declared.class.PlainClass.{PlainClass}
 use Rattle.jsa.specs.Stores.{contents_told}
 use Rattle.jsa.specs.Requests.{dump_view}
 use Rattle.jsa.specs.Dumps.{Gathered, HasClasses, DumpAnswers}

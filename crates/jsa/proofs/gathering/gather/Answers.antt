@@ -1,6 +1,6 @@
 use Rattle.std.proofs.Common.{◌∙◌, ◌+◌, sym, subst, rules, take, List, Option}
 use Rattle.jsa_files.specs.Store.{Contents}
-use Rattle.class_record.specs.declared.class.PlainClass.{PlainClass}
+use Rattle.plain_classes.specs.declared.class.PlainClass.{PlainClass}
 use Rattle.jsa.specs.declared.ended.Ended.TheVariants.{Memory}
 use Rattle.jsa.specs.Stores.{contents_told}
 use Rattle.jsa.specs.Dumps.{HasClass, HasClasses}

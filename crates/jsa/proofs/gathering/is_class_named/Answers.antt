@@ -1,8 +1,8 @@
 use Rattle.std.proofs.Common.{◌≡◌, ◌∙◌, sym, subst, ap, List, ℕ, Bool}
 use Rattle.std.specs.Str.{bytes_eq}
 use Rattle.classfile_reader.specs.FirstForm.{IsOther, IsClassNamed}
-use Rattle.class_record.specs.Outcomes.{Tells}
-use Rattle.class_record.proofs.Named.{named_is, other_is}
+use Rattle.plain_classes.specs.Outcomes.{Tells}
+use Rattle.plain_classes.proofs.Named.{named_is, other_is}
 use Rattle.jsa.proofs.gathering.is_class_named.Goals as goal
 
 pub returns-in-Ok : goal.returns-in-Ok

@@ -1,8 +1,0 @@
-use Rattle.std.proofs.Common.{◌≡◌, ◌-◌}
-use Rattle.jsa_base.specs.Reading.{times}
-use Rattle.class_record.specs.Records.{class_at}
-use Rattle.class_record.proofs.Loop.{with_front}
-use Rattle.class_record.proofs.reading.some_classes.Given as goal
-
-abbrev pub invariant-loop : goal.invariant-loop
-invariant-loop l = with_front l.classes (times class_at (l.count - l.counter) l.cursor) ≡ times class_at l.count l.fn.cursor
