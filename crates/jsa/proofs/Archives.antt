@@ -3,7 +3,7 @@ use Rattle.std.proofs.Common.{◌≡◌, ◌⊎◌, ◌≤◌, ◌+◌, ◌++◌
 use Rattle.std.specs.Prelude.{Ok, Err, true}
 use Rattle.std.specs.Global.{Vec}
 use Rattle.std.specs.Option.{option_map}
-use Rattle.jsa_base.specs.declared.quantity.Quantity.TheVariants.{FileSize, Names, Classes, ArchiveSize}
+use Rattle.jsa_base.specs.declared.quantity.Quantity.TheVariants.{FileSize, Names, Classes, ArchiveSize, Loaded}
 use Rattle.jsa_files.specs.declared.TheConstants.{MAX_FILE}
 use Rattle.jsa_files.specs.declared.fault.FilesFault.{FilesFault}
 use Rattle.jsa_files.specs.declared.fault.FilesFault.TheVariants as faults
@@ -161,6 +161,7 @@ opens_memory contents old new folder archive (Limit FileSize limit) (z, inr h) =
 opens_memory contents old new folder archive (Limit Names limit) h = front_archive old new archive h.1.read.found h.2
 opens_memory contents old new folder archive (Limit Classes limit) h = absurd h
 opens_memory contents old new folder archive (Limit ArchiveSize limit) h = absurd h
+opens_memory contents old new folder archive (Limit Loaded limit) h = absurd h
 opens_memory contents old new folder archive Memory h = h
 
 taken_memory : (contents : Option Contents) (old new : Option (List (List ℕ))) (first : List (List ℕ)) (r : RunRequest) (bytes : List ℕ) (now : Folders) (before after : Option (List ℕ)) (ended : Ended)

@@ -6,7 +6,7 @@ use Rattle.std.specs.List.{cons_option, AllByRecursion}
 use Rattle.std.specs.FinMap.{get, insert}
 use Rattle.std.specs.Option.{option_map, option_and_then}
 use Rattle.std.proofs.lemmas.List.{append-nil, append_assoc}
-use Rattle.jsa_base.specs.declared.quantity.Quantity.TheVariants.{FileSize, Names, Classes, ArchiveSize}
+use Rattle.jsa_base.specs.declared.quantity.Quantity.TheVariants.{FileSize, Names, Classes, ArchiveSize, Loaded}
 use Rattle.jsa_base.proofs.Codecs.{some_is}
 use Rattle.jsa_files.specs.declared.TheConstants.{MAX_FILE}
 use Rattle.jsa_files.specs.declared.fault.FilesFault.TheVariants as answers
@@ -225,6 +225,7 @@ asm_memory old new faults a (Limit FileSize limit) h = inl h.2
 asm_memory old new faults a (Limit Names limit) h = absurd h
 asm_memory old new faults a (Limit Classes limit) h = absurd h
 asm_memory old new faults a (Limit ArchiveSize limit) h = absurd h
+asm_memory old new faults a (Limit Loaded limit) h = absurd h
 asm_memory old new faults a Usage h = absurd h
 asm_memory old new faults a NoMain h = absurd h
 asm_memory old new faults a (NotShared refuse) h = absurd h
@@ -285,6 +286,7 @@ asm_leaves old new faults a (Limit FileSize limit) h = asm_same a old new h.2
 asm_leaves old new faults a (Limit Names limit) h = absurd h
 asm_leaves old new faults a (Limit Classes limit) h = absurd h
 asm_leaves old new faults a (Limit ArchiveSize limit) h = absurd h
+asm_leaves old new faults a (Limit Loaded limit) h = absurd h
 asm_leaves old new faults a Usage h = absurd h
 asm_leaves old new faults a NoMain h = absurd h
 asm_leaves old new faults a (NotShared refuse) h = absurd h

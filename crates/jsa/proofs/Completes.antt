@@ -3,7 +3,7 @@ use Rattle.std.proofs.Common.{◌≡◌, ◌≢◌, ◌⊎◌, inl, inr, ℕ, Li
 use Rattle.std.specs.Prelude.{Result, Ok, Err}
 use Rattle.std.specs.FinMap.{get}
 use Rattle.jsa_base.specs.declared.quantity.Quantity.{Quantity}
-use Rattle.jsa_base.specs.declared.quantity.Quantity.TheVariants.{FileSize, Names, Classes, ArchiveSize}
+use Rattle.jsa_base.specs.declared.quantity.Quantity.TheVariants.{FileSize, Names, Classes, ArchiveSize, Loaded}
 use Rattle.jsa_base.proofs.Codecs.{some_is}
 use Rattle.jsa_files.specs.declared.TheConstants.{MAX_FILE, MAX_NAMES}
 use Rattle.jsa_files.specs.declared.fault.FilesFault.{FilesFault}
@@ -123,6 +123,7 @@ file_completes found steps before after (Limit FileSize limit) h r w = record {
 file_completes found steps before after (Limit Names limit) h r w = absurd h
 file_completes found steps before after (Limit Classes limit) h r w = absurd h
 file_completes found steps before after (Limit ArchiveSize limit) h r w = absurd h
+file_completes found steps before after (Limit Loaded limit) h r w = absurd h
 file_completes found steps before after Usage h r w = absurd h
 file_completes found steps before after (BadText number) h r w = absurd h
 file_completes found steps before after Missing h r w = absurd h
@@ -274,6 +275,8 @@ archive_completes contents old new r archive before after ended h rf wf = by_end
     by_end (Limit Classes limit) (inr (o, t)) rf wf = took (Limit Classes limit) o rf wf t
     by_end (Limit ArchiveSize limit) (inl h) rf wf = absurd h.0
     by_end (Limit ArchiveSize limit) (inr (o, t)) rf wf = took (Limit ArchiveSize limit) o rf wf t
+    by_end (Limit Loaded limit) (inl h) rf wf = absurd h.0
+    by_end (Limit Loaded limit) (inr (o, t)) rf wf = took (Limit Loaded limit) o rf wf t
     by_end (Exit code) (inl h) rf wf = absurd h.0
     by_end (Exit code) (inr (o, t)) rf wf = took (Exit code) o rf wf t
     by_end Stopped (inl h) rf wf = absurd h.0
@@ -532,6 +535,7 @@ limit_ends contents d FileSize limit (z, inr (inr (p, name, first))) = inr (inr 
 limit_ends contents d Names limit (z, h) = inr (inl (inr (ap (Limit Names) z, h)))
 limit_ends contents d Classes limit (z, h) = inr (inr (inr (inl (ap (Limit Classes) z, h))))
 limit_ends contents d ArchiveSize limit (z, h) = inr (inr (inr (inr (inl (ap (Limit ArchiveSize) z, h)))))
+limit_ends contents d Loaded limit h = absurd h
 
 other_ends : (contents : Contents) (d : DumpRequest) (name : List ℕ) → IsUnsupportedName (Some contents) d name → DumpEnds contents d Unsupported
 other_ends contents d name (p, first) = inr (inr (inl (inr (refl, record { ready = p; name = name; first = first }))))
@@ -629,6 +633,7 @@ asm_completes contents new faults a (Limit FileSize limit) h rf wf = record {
 asm_completes contents new faults a (Limit Names limit) h rf wf = absurd h
 asm_completes contents new faults a (Limit Classes limit) h rf wf = absurd h
 asm_completes contents new faults a (Limit ArchiveSize limit) h rf wf = absurd h
+asm_completes contents new faults a (Limit Loaded limit) h rf wf = absurd h
 asm_completes contents new faults a Usage h rf wf = absurd h
 asm_completes contents new faults a NoMain h rf wf = absurd h
 asm_completes contents new faults a (NotShared refuse) h rf wf = absurd h

@@ -1,7 +1,7 @@
 -- What a dump answers, from what its steps answer.
 use Rattle.std.proofs.Common.{◌≡◌, ◌≢◌, ◌∙◌, ◌≤◌, ◌⊎◌, inl, inr, ℕ, List, Option, Some, None, refl, sym, ap, subst, length, arith}
 use Rattle.std.specs.Prelude.{unwrap_or, [], Ok, Err}
-use Rattle.jsa_base.specs.declared.quantity.Quantity.TheVariants.{FileSize, Names, Classes, ArchiveSize}
+use Rattle.jsa_base.specs.declared.quantity.Quantity.TheVariants.{FileSize, Names, Classes, ArchiveSize, Loaded}
 use Rattle.jsa_files.specs.declared.fault.FilesFault.{FilesFault}
 use Rattle.jsa_files.specs.declared.fault.FilesFault.TheVariants as answers
 use Rattle.jsa_files.specs.Store.{Contents}
@@ -49,6 +49,7 @@ stops old new faults d before p names place ended is s e =
     by_cases (Limit Names limit) f = absurd f.said
     by_cases (Limit Classes limit) f = absurd f.said
     by_cases (Limit ArchiveSize limit) f = absurd f.said
+    by_cases (Limit Loaded limit) f = absurd f.said
     by_cases ReadFault f = (e, refl)
     by_cases Memory f = inl (e, refl)
     by_cases (Exit code) f = absurd f.said
@@ -67,6 +68,7 @@ no_list old new faults d before (Limit FileSize limit) h e = ((h.0, inl h.1), e,
 no_list old new faults d before (Limit Names limit) h e = absurd h
 no_list old new faults d before (Limit Classes limit) h e = absurd h
 no_list old new faults d before (Limit ArchiveSize limit) h e = absurd h
+no_list old new faults d before (Limit Loaded limit) h e = absurd h
 no_list old new faults d before ReadFault h e = (e, refl)
 no_list old new faults d before Memory h e = inl (e, refl)
 no_list old new faults d before (Exit code) h e = absurd h

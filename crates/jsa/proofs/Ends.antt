@@ -4,7 +4,7 @@ use Rattle.std.specs.Prelude.{◌<◌, Ok, Err, replicate}
 use Rattle.std.specs.Global.{Vec}
 use Rattle.std.proofs.lemmas.List.{length-replicate}
 use Rattle.std.specs.FinMap.{get}
-use Rattle.jsa_base.specs.declared.quantity.Quantity.TheVariants.{FileSize, Names, Classes, ArchiveSize}
+use Rattle.jsa_base.specs.declared.quantity.Quantity.TheVariants.{FileSize, Names, Classes, ArchiveSize, Loaded}
 use Rattle.jsa_files.specs.declared.TheConstants.{MAX_FILE}
 use Rattle.jsa_files.specs.declared.fault.FilesFault.TheVariants.{TooLarge}
 use Rattle.jsa_files.specs.Store.{Contents, Store, AnswersAsTold}
@@ -35,6 +35,7 @@ file_memory found steps before after (Limit FileSize limit) h = inl h.2
 file_memory found steps before after (Limit Names limit) h = absurd h
 file_memory found steps before after (Limit Classes limit) h = absurd h
 file_memory found steps before after (Limit ArchiveSize limit) h = absurd h
+file_memory found steps before after (Limit Loaded limit) h = absurd h
 file_memory found steps before after Missing h = absurd h
 file_memory found steps before after (NotShared refuse) h = absurd h
 file_memory found steps before after Memory h = h

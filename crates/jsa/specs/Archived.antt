@@ -1,6 +1,6 @@
 -- What a run that is given an archive answers, and where it takes its class from.
 use Rattle.std.specs.Prelude.{◌≡◌, ◌≢◌, ◌<◌, ◌≤◌, ◌⊎◌, ℕ, List, [], ◌∷◌, length, Bool, true, false, Option, Some, None, unwrap_or, Ok, Err, ⊤}
-use Rattle.jsa_base.specs.declared.quantity.Quantity.TheVariants.{FileSize, Names, Classes, ArchiveSize}
+use Rattle.jsa_base.specs.declared.quantity.Quantity.TheVariants.{FileSize, Names, Classes, ArchiveSize, Loaded}
 use Rattle.jsa_files.specs.declared.TheConstants.{MAX_FILE, MAX_NAMES}
 use Rattle.jsa_files.specs.declared.fault.FilesFault.TheVariants.{TooLarge, TooMany}
 use Rattle.jsa_files.specs.Store.{Contents}
@@ -78,6 +78,7 @@ OpensNot contents old new folder archive (Limit FileSize limit) = (limit ≡ MAX
 OpensNot contents old new folder archive (Limit Names limit) = (limit ≡ MAX_NAMES) × (many : TooManyNames contents folder archive) × ReadsBy old new (archive_reads archive many.read.found)
 OpensNot contents old new folder archive (Limit Classes limit) = ⊥
 OpensNot contents old new folder archive (Limit ArchiveSize limit) = ⊥
+OpensNot contents old new folder archive (Limit Loaded limit) = ⊥
 OpensNot contents old new folder archive ReadFault = ReadsFront old new (archive ∷ [])
 OpensNot contents old new folder archive Memory = ReadsFront old new (archive ∷ [])
 OpensNot contents old new folder archive (Exit code) = ⊥

@@ -3,7 +3,7 @@ use Rattle.std.specs.Prelude.{◌≡◌, ◌≢◌, ◌≤◌, ◌⊎◌, ℕ, L
 use Rattle.std.specs.FinMap.{get, insert}
 use Rattle.std.specs.List.{filter_map}
 use Rattle.std.specs.Option.{option_and_then, option_map}
-use Rattle.jsa_base.specs.declared.quantity.Quantity.TheVariants.{FileSize, Names, Classes, ArchiveSize}
+use Rattle.jsa_base.specs.declared.quantity.Quantity.TheVariants.{FileSize, Names, Classes, ArchiveSize, Loaded}
 use Rattle.jsa_files.specs.declared.TheConstants.{MAX_FILE}
 use Rattle.jsa_files.specs.Causes.{Rose}
 use Rattle.jsa_files.specs.Store.{Contents}
@@ -105,6 +105,7 @@ AsmAnswers old new faults a (Limit FileSize limit) = (limit ≡ MAX_FILE) × Tex
 AsmAnswers old new faults a (Limit Names limit) = ⊥
 AsmAnswers old new faults a (Limit Classes limit) = ⊥
 AsmAnswers old new faults a (Limit ArchiveSize limit) = ⊥
+AsmAnswers old new faults a (Limit Loaded limit) = ⊥
 AsmAnswers old new faults a Usage = ⊥
 AsmAnswers old new faults a NoMain = ⊥
 AsmAnswers old new faults a (NotShared refuse) = ⊥

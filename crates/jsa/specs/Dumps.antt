@@ -1,7 +1,7 @@
 -- What a dump answers, writes and tells.
 use Rattle.std.specs.Prelude.{◌≡◌, ◌<◌, ◌≤◌, ◌⊎◌, ℕ, List, [], ◌∷◌, ◌++◌, length, Option, Some, None, Ok, Err, ⊤, codes}
 use Rattle.std.specs.Fmt.{decimal}
-use Rattle.jsa_base.specs.declared.quantity.Quantity.TheVariants.{FileSize, Names, Classes, ArchiveSize}
+use Rattle.jsa_base.specs.declared.quantity.Quantity.TheVariants.{FileSize, Names, Classes, ArchiveSize, Loaded}
 use Rattle.jsa_files.specs.declared.TheConstants.{MAX_FILE, MAX_NAMES}
 use Rattle.jsa_files.specs.declared.fault.FilesFault.TheVariants.{TooLarge, TooMany}
 use Rattle.jsa_files.specs.Causes.{Rose}
@@ -141,6 +141,7 @@ PassesLimit contents d (Limit FileSize limit) = (limit ≡ MAX_FILE) × (ListToo
 PassesLimit contents d (Limit Names limit) = (limit ≡ MAX_NAMES) × FolderTooMany contents d
 PassesLimit contents d (Limit Classes limit) = (limit ≡ 65_535) × TooManyClasses contents d
 PassesLimit contents d (Limit ArchiveSize limit) = (limit ≡ 67_108_864) × ArchiveTooLarge contents d
+PassesLimit contents d (Limit Loaded limit) = ⊥
 PassesLimit contents d other = ⊥
 
 -- A name that is listed has no class, and each before it has.

@@ -7,7 +7,7 @@ use Rattle.archive_header.specs.declared.refuse.Refuse.TheVariants as refusals
 use Rattle.jsa.specs.declared.ended.Ended.{Ended}
 use Rattle.jsa.specs.declared.ended.Ended.TheVariants.{Exit, Usage, BadText, NoMain, Missing, NotShared, Stopped, Unsupported, ReadFault, WriteFault, Limit, Memory}
 use Rattle.jsa_base.specs.declared.quantity.Quantity.{Quantity}
-use Rattle.jsa_base.specs.declared.quantity.Quantity.TheVariants.{FileSize, Names, Classes, ArchiveSize}
+use Rattle.jsa_base.specs.declared.quantity.Quantity.TheVariants.{FileSize, Names, Classes, ArchiveSize, Loaded}
 
 -- the variant's name
 abbrev pub quantity_name : Quantity → List ℕ
@@ -15,6 +15,7 @@ quantity_name FileSize = codes "FileSize"
 quantity_name Names = codes "Names"
 quantity_name Classes = codes "Classes"
 quantity_name ArchiveSize = codes "ArchiveSize"
+quantity_name Loaded = codes "Loaded"
 
 -- why an archive was refused, in a word, with a number where there is one
 abbrev pub cause_name : Refuse → List ℕ

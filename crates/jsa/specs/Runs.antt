@@ -1,7 +1,7 @@
 -- What the run of a class answers, by the bytes that its class is taken from, and what out takes.
 use Rattle.std.specs.Prelude.{◌≡◌, ◌<◌, ◌≤◌, ◌⊎◌, ℕ, List, [], ◌∷◌, ◌++◌, length, Option, Some, None}
 use Rattle.std.specs.FinMap.{get}
-use Rattle.jsa_base.specs.declared.quantity.Quantity.TheVariants.{FileSize, Names, Classes, ArchiveSize}
+use Rattle.jsa_base.specs.declared.quantity.Quantity.TheVariants.{FileSize, Names, Classes, ArchiveSize, Loaded}
 use Rattle.jsa_files.specs.declared.TheConstants.{MAX_FILE}
 use Rattle.jsa_files.specs.Store.{Contents}
 use Rattle.jsa_files.specs.Sinks.{GrowsBy, GrowsByFront}
@@ -62,6 +62,7 @@ FileAnswers found steps before after (Limit FileSize limit) = (limit ≡ MAX_FIL
 FileAnswers found steps before after (Limit Names limit) = ⊥
 FileAnswers found steps before after (Limit Classes limit) = ⊥
 FileAnswers found steps before after (Limit ArchiveSize limit) = ⊥
+FileAnswers found steps before after (Limit Loaded limit) = ⊥
 FileAnswers found steps before after Usage = ⊥
 FileAnswers found steps before after (BadText number) = ⊥
 FileAnswers found steps before after Missing = ⊥

@@ -1,7 +1,7 @@
 -- What the steps of a command leave to the next. No public contract cites these.
 use Rattle.std.specs.Prelude.{◌≡◌, ◌⊎◌, ℕ, List, [], map, length, ◌≤◌, slice_get, unwrap_or, Option, Some, None, Result, Ok, Err, ⊤}
 use Rattle.std.specs.Global.{Vec}
-use Rattle.jsa_base.specs.declared.quantity.Quantity.TheVariants.{FileSize, Names, Classes, ArchiveSize}
+use Rattle.jsa_base.specs.declared.quantity.Quantity.TheVariants.{FileSize, Names, Classes, ArchiveSize, Loaded}
 use Rattle.jsa_files.specs.declared.TheConstants.{MAX_FILE}
 use Rattle.jsa_files.specs.Causes.{Rose}
 use Rattle.jsa_files.specs.Store.{Contents}
@@ -43,6 +43,7 @@ ListsNot contents d (Limit FileSize limit) = (limit ≡ MAX_FILE) × ListTooLarg
 ListsNot contents d (Limit Names limit) = ⊥
 ListsNot contents d (Limit Classes limit) = ⊥
 ListsNot contents d (Limit ArchiveSize limit) = ⊥
+ListsNot contents d (Limit Loaded limit) = ⊥
 ListsNot contents d ReadFault = ⊤
 ListsNot contents d Memory = ⊤
 ListsNot contents d (Exit code) = ⊥
@@ -65,6 +66,7 @@ HasNot contents folder name (Limit FileSize limit) = (limit ≡ MAX_FILE) × Has
 HasNot contents folder name (Limit Names limit) = ⊥
 HasNot contents folder name (Limit Classes limit) = ⊥
 HasNot contents folder name (Limit ArchiveSize limit) = ⊥
+HasNot contents folder name (Limit Loaded limit) = ⊥
 HasNot contents folder name ReadFault = ⊤
 HasNot contents folder name Memory = ⊤
 HasNot contents folder name (Exit code) = ⊥

@@ -20,6 +20,7 @@ fn quantity_name(quantity: Quantity) -> &'static str
         Quantity::Names => "Names",
         Quantity::Classes => "Classes",
         Quantity::ArchiveSize => "ArchiveSize",
+        Quantity::Loaded => "Loaded",
     }
 }
 
@@ -230,6 +231,7 @@ mod tests {
                 Ended::Limit(Quantity::ArchiveSize, 3),
                 "limit ArchiveSize 3\n",
             ),
+            (Ended::Limit(Quantity::Loaded, 4), "limit Loaded 4\n"),
             (
                 Ended::Limit(Quantity::FileSize, 67_108_864),
                 "limit FileSize 67108864\n",

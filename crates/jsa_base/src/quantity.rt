@@ -11,4 +11,6 @@ pub enum Quantity {
     Classes,
     /// The size of an archive that is written, in bytes.
     ArchiveSize,
+    /// The number of classes that are loaded in one run.
+    Loaded,
 }
