@@ -1,0 +1,37 @@
+-- The internal names of the throwables.
+use Rattle.std.specs.Prelude.{ℕ, List, codes}
+use Rattle.class_record.specs.declared.fault.JavaFault.{JavaFault}
+use Rattle.class_record.specs.declared.fault.JavaFault.TheVariants.{Throwable, Error, Exception, RuntimeException, LinkageError, NoClassDefFoundError, ClassFormatError, UnsupportedClassVersionError, ClassCircularityError, IncompatibleClassChangeError, AbstractMethodError, IllegalAccessError, InstantiationError, NoSuchFieldError, NoSuchMethodError, UnsatisfiedLinkError, VerifyError, ExceptionInInitializerError, VirtualMachineError, OutOfMemoryError, StackOverflowError, ArithmeticException, IndexOutOfBoundsException, ArrayIndexOutOfBoundsException, StringIndexOutOfBoundsException, ArrayStoreException, ClassCastException, NegativeArraySizeException, NullPointerException, IllegalMonitorStateException, CloneNotSupportedException}
+
+abbrev pub fault_name : JavaFault → List ℕ
+fault_name Throwable = codes "java/lang/Throwable"
+fault_name Error = codes "java/lang/Error"
+fault_name Exception = codes "java/lang/Exception"
+fault_name RuntimeException = codes "java/lang/RuntimeException"
+fault_name LinkageError = codes "java/lang/LinkageError"
+fault_name NoClassDefFoundError = codes "java/lang/NoClassDefFoundError"
+fault_name ClassFormatError = codes "java/lang/ClassFormatError"
+fault_name UnsupportedClassVersionError = codes "java/lang/UnsupportedClassVersionError"
+fault_name ClassCircularityError = codes "java/lang/ClassCircularityError"
+fault_name IncompatibleClassChangeError = codes "java/lang/IncompatibleClassChangeError"
+fault_name AbstractMethodError = codes "java/lang/AbstractMethodError"
+fault_name IllegalAccessError = codes "java/lang/IllegalAccessError"
+fault_name InstantiationError = codes "java/lang/InstantiationError"
+fault_name NoSuchFieldError = codes "java/lang/NoSuchFieldError"
+fault_name NoSuchMethodError = codes "java/lang/NoSuchMethodError"
+fault_name UnsatisfiedLinkError = codes "java/lang/UnsatisfiedLinkError"
+fault_name VerifyError = codes "java/lang/VerifyError"
+fault_name ExceptionInInitializerError = codes "java/lang/ExceptionInInitializerError"
+fault_name VirtualMachineError = codes "java/lang/VirtualMachineError"
+fault_name OutOfMemoryError = codes "java/lang/OutOfMemoryError"
+fault_name StackOverflowError = codes "java/lang/StackOverflowError"
+fault_name ArithmeticException = codes "java/lang/ArithmeticException"
+fault_name IndexOutOfBoundsException = codes "java/lang/IndexOutOfBoundsException"
+fault_name ArrayIndexOutOfBoundsException = codes "java/lang/ArrayIndexOutOfBoundsException"
+fault_name StringIndexOutOfBoundsException = codes "java/lang/StringIndexOutOfBoundsException"
+fault_name ArrayStoreException = codes "java/lang/ArrayStoreException"
+fault_name ClassCastException = codes "java/lang/ClassCastException"
+fault_name NegativeArraySizeException = codes "java/lang/NegativeArraySizeException"
+fault_name NullPointerException = codes "java/lang/NullPointerException"
+fault_name IllegalMonitorStateException = codes "java/lang/IllegalMonitorStateException"
+fault_name CloneNotSupportedException = codes "java/lang/CloneNotSupportedException"

@@ -1,0 +1,14 @@
+pub mod FaultNames
+pub mod Files
+pub mod Readings
+pub mod Trees
+pub mod Loading
+pub mod Facts
+pub mod Ancestors
+pub mod Records
+pub mod Linking
+pub mod Worlds
+pub mod Built
+pub mod Calls
+pub mod Orders
+pub mod Laws
