@@ -1,0 +1,13 @@
+pub mod Names
+pub mod Known
+pub mod Sets
+pub mod FactsKnown
+pub mod Grown
+pub mod Ids
+pub mod Inherited
+pub mod Kept
+pub mod Places
+pub mod BuiltOn
+pub mod NewNames
+pub mod Loads
+pub mod PushKeeps

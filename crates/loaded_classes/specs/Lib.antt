@@ -1,0 +1,5 @@
+pub mod Slots
+pub mod Table
+pub mod Held
+pub mod Bases
+pub mod Pushing

@@ -1,0 +1,17 @@
+//! The classes that a run has loaded, held by their class files, with all that is known of them at hand (JVMS 5.3).
+#![tactic(auto)]
+
+mod bases;
+mod classes;
+mod held;
+mod layout;
+mod pushing;
+mod reading;
+mod table;
+
+pub use table::LoadedClasses;
+
+#[cfg(test)]
+mod test_classes;
+#[cfg(test)]
+mod tests;
