@@ -1,0 +1,10 @@
+pub mod Kept
+pub mod Places
+pub mod Paths
+pub mod Rights
+pub mod Steps
+pub mod Work
+pub mod Fresh
+pub mod Adds
+pub mod Entries
+pub mod Finishing

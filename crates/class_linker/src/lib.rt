@@ -1,0 +1,16 @@
+//! Loads and links classes from their files (JVMS 5.3, 5.4).
+#![tactic(auto)]
+
+mod completing;
+mod entering;
+mod fresh;
+mod library;
+mod loading;
+mod readings;
+#[cfg(test)]
+mod tests;
+mod under_way;
+#[cfg(test)]
+mod worlds;
+
+pub use fresh::Fresh;
