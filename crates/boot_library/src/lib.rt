@@ -1,0 +1,28 @@
+//! The boot library: the classes that every run begins with, as an assembler text.
+#![tactic(auto)]
+
+mod builders;
+mod class_files;
+mod classes;
+mod errors;
+mod exceptions;
+mod fault;
+mod further;
+mod home;
+mod numbers;
+mod objects;
+mod streams;
+mod strings;
+mod text;
+mod values;
+
+pub use fault::HomeFault;
+pub use home::write_home;
+pub use text::boot_text;
+
+#[cfg(test)]
+mod home_tests;
+#[cfg(test)]
+mod test_table;
+#[cfg(test)]
+mod tests;
