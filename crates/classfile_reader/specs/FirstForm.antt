@@ -1,8 +1,9 @@
 -- Which bytes are a class of the first form, and with which program.
-use Rattle.std.specs.Prelude.{◌≡◌, ℕ, List, Option, Some, Result, Ok, Err}
+use Rattle.std.specs.Prelude.{◌≡◌, ℕ, List, Option, Some, None, Result, Ok, Err}
+use Rattle.std.specs.Bool.{IsTrue}
 use Rattle.jsa_base.specs.Reading.{◌>>=◌}
 use Rattle.class_tree.specs.declared.tree.ClassTree.{ClassTree}
-use Rattle.class_tree.specs.WellFormed.{class_name}
+use Rattle.class_tree.specs.WellFormed.{class_name, is_well_formed}
 use Rattle.class_tree.specs.Spells.{Spells, HasNoTree}
 use Rattle.classfile_reader.specs.declared.fault.FormFault.{FormFault}
 use Rattle.classfile_reader.specs.declared.fault.FormFault.TheVariants.{NotFirstForm, Memory}
@@ -28,6 +29,13 @@ Accepts bytes (Err Memory) = Unit {0}
 -- A text has one program at most.
 abbrev pub OneProgram : Type 0
 OneProgram = (bytes : List ℕ) (p q : Program) → IsFirstForm bytes p → IsFirstForm bytes q → p ≡ q
+
+-- What is answered of a tree: its program, or a fault exactly where it breaks a rule of form (4.1, 4.4 to 4.7) or has no
+-- program, unless memory runs out.
+abbrev pub HasProgram : ClassTree → Result Program FormFault → Type 0
+HasProgram tree (Ok program) = IsTrue (is_well_formed tree) × (program_of tree ≡ Some program)
+HasProgram tree (Err NotFirstForm) = IsTrue (is_well_formed tree) → program_of tree ≡ None
+HasProgram tree (Err Memory) = Unit {0}
 
 -- What is answered of the whole class: its tree, or a fault exactly where there is none, unless memory runs out.
 abbrev pub IsTreeOf : List ℕ → Result ClassTree FormFault → Type 0

@@ -23,4 +23,4 @@ pub use class_reader::read_class;
 pub use fault::FormFault;
 pub use name_reading::{each_class_is_named, one_name, read_name};
 pub use program::{Instruction, MAX_CODE, Program};
-pub use program_reading::{one_program, read_program};
+pub use program_reading::{one_program, read_program, tree_program};

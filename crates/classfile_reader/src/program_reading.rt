@@ -6,7 +6,7 @@ ghost use Rattle.class_tree.specs.WellFormed.{is_well_formed};
 ghost use Rattle.classfile_reader.specs.Outcomes.{Yields};
 ghost use Rattle.classfile_reader.specs.Form as form;
 ghost use Rattle.classfile_reader.specs.Program as program;
-ghost use Rattle.classfile_reader.specs.FirstForm.{Accepts, OneProgram, IsTreeOf};
+ghost use Rattle.classfile_reader.specs.FirstForm.{Accepts, HasProgram, OneProgram, IsTreeOf};
 
 use crate::class_reader::read_class;
 use crate::fault::FormFault;
@@ -14,7 +14,7 @@ use crate::fitting::fits;
 use crate::form::{has_form, is_main};
 use crate::instructions::instructions;
 use crate::program::{MAX_CODE, Program};
-use class_tree::{ClassTree, CodeTree, FormatFault, MethodTree, Pool};
+use class_tree::{ClassTree, CodeTree, FormatFault, MethodTree, Pool, is_well_formed};
 use std::alloc::Global;
 
 #[tactic(auto, unfolding(crate::specs::Program::program_in))]
@@ -85,6 +85,21 @@ pub fn read_program(alloc: Global, bytes: &[u8]) -> Result<Program, FormFault>
 {
     let tree = class_of(alloc, bytes)?;
     program_of(alloc, &tree)
+}
+
+/// The program of the tree of a class file (JVMS 4), where it has the first form.
+///
+/// `NotFirstForm` comes exactly where the tree breaks a rule of form (JVMS 4.1, 4.4 to 4.7) or isn't of the first form.
+pub fn tree_program(alloc: Global, tree: &ClassTree) -> Result<Program, FormFault>
+    ensures exact { HasProgram tree.now result }
+    // Each instruction finds its operands, its room and its local, and the last one alone returns.
+    ensures tested { IfOk result (λ r. program.is_tested r ≡ true) }
+    ensures few { IfOk result (λ r. length r.instructions ≤ MAX_CODE) }
+{
+    if !is_well_formed(alloc, tree)? {
+        return Err(FormFault::NotFirstForm);
+    }
+    program_of(alloc, tree)
 }
 
 /// A text has one program at most.

@@ -1,7 +1,7 @@
 // What no contract says: that a class of the first form is read where memory suffices.
 use crate::{
     FormFault, Instruction, each_class_is_named, one_name, one_program, read_class, read_name,
-    read_program,
+    read_program, tree_program,
 };
 use std::alloc::Global;
 use std::process::Abort;
@@ -32,6 +32,22 @@ fn a_sum_is_read(rt: HostRuntime) -> Result<(), Fail> {
     assert_eq!(rt; program.max_locals, 1);
     assert_eq!(rt; program.instructions.as_slice(), wanted.as_slice());
     one_program();
+    Ok(())
+}
+
+#[test]
+fn the_tree_of_a_class_has_its_program(rt: HostRuntime) -> Result<(), Fail> {
+    let mut tree = read_class(rt.alloc(), &PUTS_42)?;
+    let program = tree_program(rt.alloc(), &tree)?;
+    assert_eq!(rt; program.instructions.len(), 5);
+    tree.major = 51;
+    let older = tree_program(rt.alloc(), &tree);
+    assert_eq!(rt; older.err(), Some(FormFault::NotFirstForm));
+    tree.major = 52;
+    // A class whose superclass isn't there breaks a rule of form.
+    tree.sup = 65535;
+    let malformed = tree_program(rt.alloc(), &tree);
+    assert_eq!(rt; malformed.err(), Some(FormFault::NotFirstForm));
     Ok(())
 }
 
