@@ -1,19 +1,21 @@
 -- What completing the innermost class comes to, in the files that a store tells.
-use Rattle.std.proofs.Common.{◌≡◌, ℕ, ◌<◌, ◌≤◌, List, [], ◌∷◌, ◌++◌, length, Bool, true, false, Some, refl, sym, ◌∙◌, ap, subst}
+use Rattle.std.proofs.Common.{◌≡◌, ℕ, ◌<◌, ◌≤◌, List, [], ◌∷◌, ◌++◌, length, Bool, true, false, Option, Some, refl, sym, ◌∙◌, ap, subst}
 use Rattle.std.specs.Prelude.{if◌then◌else◌, reverse, nat_lt}
 use Rattle.std.specs.List.{AllByRecursion}
+use Rattle.std.specs.Option.{option_map}
 use Rattle.std.proofs.lemmas.Bool.{lt-ltb, le-ltb}
 use Rattle.std.proofs.lemmas.List.{append-nil, reverse-append, length-map}
 use Rattle.jsa_base.specs.declared.quantity.Quantity.TheVariants as quantities
 use Rattle.loader_rules.specs.declared.loader.Loader.{Loader}
 use Rattle.loader_rules.specs.declared.loader.Loader.TheVariants.{App}
+use Rattle.class_tree.specs.declared.tree.ClassTree.{ClassTree}
 use Rattle.class_record.specs.declared.bases.Base.{Base}
 use Rattle.class_record.specs.declared.fault.TheConstants.{MAX_LOADED}
 use Rattle.class_record.specs.declared.fault.ClassesFault.TheVariants.{Limit}
-use Rattle.class_record.specs.Files.{Name, RunFiles, file_of}
+use Rattle.class_record.specs.Files.{Name, RunFiles, ClassFile, file_of}
 use Rattle.class_record.specs.Readings as readings
 use Rattle.class_record.specs.Trees.{own_name, sup_name, bases_of}
-use Rattle.class_record.specs.Loading.{Completes, Outcome, and_then, is_among}
+use Rattle.class_record.specs.Loading.{Completes, FoundClass, Outcome, and_then, found_in, is_among}
 use Rattle.class_record.specs.Facts.{Facts, name_of, names_of}
 use Rattle.class_record.specs.Ancestors.{newest}
 use Rattle.class_record.specs.Built.{size_of_super}
@@ -27,7 +29,7 @@ use Rattle.class_linker.specs.declared.readings.Held.TheVariants.{Loaded}
 use Rattle.class_linker.specs.declared.readings.Reading.{Reading}
 use Rattle.class_linker.specs.declared.under_way.Frame.{Frame}
 use Rattle.class_linker.specs.Kept.{names_loaded, names_under, held_as, with_held, bases_left, IsFrame}
-use Rattle.class_linker.specs.Rights.{order_of, IsHeldOf, IsRead, IsRight, IsFrameOf, progress_at}
+use Rattle.class_linker.specs.Rights.{order_of, tree_of, AreTreesOf, IsHeldOf, IsRead, IsRight, IsFrameOf, progress_at}
 use Rattle.class_linker.specs.Steps.{Leads, left_of, left_after, loads_rest}
 use Rattle.class_linker.proofs.PassTests.{all_at}
 use Rattle.class_linker.proofs.PassTold.{all_more}
@@ -70,6 +72,14 @@ full_stops p rs t f fs at o none new full =
     ap (λ (x : Outcome). passed (world_of_files p) at.order x.events) (left_done p f fs none)
     ∙ ap (λ (order : List Name). passed (world_of_files p) order (Completes f.name ∷ (left_after p fs).events)) o
     ∙ when_full (is_among f.name (names_loaded t)) (nat_lt (length (names_loaded t)) MAX_LOADED) _ _ _ new (le-ltb _ _ (subst (λ (n : ℕ). MAX_LOADED ≤ n) (sym (count_is t)) full))
+
+-- ---- trees
+
+trees_more : (p : RunFiles) (fs : List Facts) (ts : List ClassTree) (f : Facts) (tree : ClassTree) → AreTreesOf p fs ts → tree_of p f.name ≡ Some tree → AreTreesOf p (fs ++ f ∷ []) (ts ++ tree ∷ [])
+trees_more p [] [] f tree h e = (e, tt)
+trees_more p [] (t ∷ ts) f tree h e = absurd h
+trees_more p (g ∷ fs) [] f tree h e = absurd h
+trees_more p (g ∷ fs) (t ∷ ts) f tree h e = (h.0, trees_more p fs ts f tree h.1 e)
 
 -- ---- the class is loaded
 
@@ -152,6 +162,13 @@ module _ (p : RunFiles) (rs : List Reading) (t : ClassTable) (fs : List Frame) (
   unfolding facts_of
   facts_name = own_name_is
 
+  -- ---- the trees
+
+  own_tree : (h : IsRead p k.reading) → tree_of p f.name ≡ Some k.tree
+  own_tree h =
+      ap (λ (o : Option ClassFile). option_map (λ (c : FoundClass). c.tree) (found_in o)) (subst (λ (n : Name). file_of p App n ≡ Some h.file) k.name h.found)
+      ∙ ap (λ (r : readings.Reading). option_map (λ (c : FoundClass). c.tree) (option_map (λ (tree : ClassTree). let found : FoundClass = record { file = h.file; tree = tree } in found) (readings.tree_in r))) (tree_read h)
+
   pub right_after : IsRight p rs t → IsFrameOf p t f → IsRight p left after
   right_after right done =
       let h = all_at (IsRead p) rs f.place k.reading right.readings k.at in
@@ -160,4 +177,5 @@ module _ (p : RunFiles) (rs : List Reading) (t : ClassTable) (fs : List Frame) (
         order = subst (IsOrder p) (sym order_is) (is_loaded h done, right.order);
         facts = all_more (λ (g : Facts). record_of p g.name ≡ Some g) t.classes own_facts right.facts
             (ap (record_of p) facts_name ∙ own_record h done right.order right.facts);
+        trees = trees_more p t.classes t.trees own_facts k.tree right.trees (ap (tree_of p) facts_name ∙ own_tree h);
       }

@@ -107,6 +107,7 @@ module _ (s : Store) (lists : FolderLists) (from : Loader) (name : Name) (file :
       readings = subst (AllByRecursion (IsRead q)) (sym a.readings) (all_end (IsRead q) before (read_as name file.loader file.folder a.held) k.readings is_read);
       order = k.order;
       facts = k.facts;
+      trees = k.trees;
     }
 
     leaves_found : (t : ClassTable) → is_among name (names_read before) ≡ false

@@ -6,6 +6,7 @@ pub mod UnderWayTop
 pub mod HeldFiles
 pub mod BasesLeft
 pub mod FreshLinks
+pub mod FreshTrees
 pub mod EnterLists
 pub mod EnterPaths
 pub mod EnterTold

@@ -1,15 +1,18 @@
 -- What is so of all that loading keeps where the store of files tells what they hold.
 use Rattle.std.specs.Prelude.{◌≡◌, ℕ, ◌≤◌, List, [], ◌∷◌, length, take, Option, Some, None, ⊤}
 use Rattle.std.specs.List.{AllByRecursion}
+use Rattle.std.specs.Option.{option_map}
 use Rattle.jsa_files.specs.declared.TheConstants.{MAX_FILE}
 use Rattle.jsa_files.specs.Store.{Store}
 use Rattle.loader_rules.specs.declared.loader.Loader.{Loader}
 use Rattle.loader_rules.specs.declared.loader.Loader.TheVariants.{App}
 use Rattle.loader_rules.specs.Lists.{FolderLists}
+use Rattle.class_tree.specs.declared.tree.ClassTree.{ClassTree}
 use Rattle.class_record.specs.declared.bases.Base.{Base}
 use Rattle.class_record.specs.Files.{Name, RunFiles, ClassFile, file_of}
 use Rattle.class_record.specs.Readings as readings
-use Rattle.class_record.specs.Facts.{names_of}
+use Rattle.class_record.specs.Facts.{Facts, names_of}
+use Rattle.class_record.specs.Loading.{class_of}
 use Rattle.class_record.specs.Ancestors.{newest}
 use Rattle.class_record.specs.Orders.{IsBase, IsOrder}
 use Rattle.class_record.specs.Worlds.{world_of_files}
@@ -53,10 +56,22 @@ pub record IsRead (p : RunFiles) (r : Reading) : Type 0 where
   pub small : length file.bytes ≤ MAX_FILE
   pub held : IsHeldOf (readings.reading_of file.bytes) r.held
 
+-- the tree of the class that the application loader finds for a name
+abbrev pub tree_of : RunFiles → Name → Option ClassTree
+tree_of p name = option_map (λ c. c.tree) (class_of p App name)
+
+-- Each tree is that of the class file that is found for the name of the class at its place.
+abbrev pub AreTreesOf : RunFiles → List Facts → List ClassTree → Type 0
+AreTreesOf p [] [] = Unit {0}
+AreTreesOf p [] (t ∷ ts) = ⊥
+AreTreesOf p (f ∷ fs) [] = ⊥
+AreTreesOf p (f ∷ fs) (t ∷ ts) = (tree_of p f.name ≡ Some t) × AreTreesOf p fs ts
+
 pub record IsRight (p : RunFiles) (read : List Reading) (t : ClassTable) : Type 0 where
   pub readings : AllByRecursion (IsRead p) read
   pub order : IsOrder p (order_of t)
   pub facts : AreOf (world_of_files p) t.classes
+  pub trees : AreTreesOf p t.classes t.trees
 
 -- What a class under way is based on, as far as it is done, is loaded and passes the tests.
 abbrev pub IsFrameOf : RunFiles → ClassTable → Frame → Type 0

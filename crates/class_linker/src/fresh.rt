@@ -1,6 +1,8 @@
 //! The classes of a run, each taken from its file.
-ghost use Rattle.std.specs.Prelude.{◌≡◌, [], ◌∷◌};
+ghost use Rattle.std.specs.Prelude.{◌≡◌, ◌<◌, [], ◌∷◌, Some, length};
+ghost use Rattle.class_record.specs.Facts.{name_at};
 ghost use Rattle.class_linker.specs.Fresh.{fresh_view};
+ghost use Rattle.class_linker.specs.Rights.{ForFiles, tree_of};
 
 use crate::library::Library;
 use crate::loading::load_name;
@@ -8,7 +10,7 @@ use crate::readings::Readings;
 use class_record::{
     ClassId, Classes, ClassesFault, FieldFact, JavaFault, MethodFact, PoolFact, Source,
 };
-use class_tree::Handler;
+use class_tree::{ClassTree, Handler};
 use jsa_files::Files;
 use loaded_classes::LoadedClasses;
 use loader_rules::{Loader, Paths};
@@ -55,6 +57,15 @@ impl<F: Files> Fresh<F> {
                 loaded: LoadedClasses::new(alloc),
             },
         }
+    }
+
+    /// The class file of a loaded class, as a tree.
+    pub fn tree(&self, id: ClassId) -> &ClassTree
+        requires { id.0 < length self.now.loaded.classes }
+        // Where the store tells, it is that of the class file that is found for the name of the class.
+        ensures { ForFiles (F.store self.now.files) self.now.folders (λ p. tree_of p (name_at self.now.loaded.classes id.0) ≡ Some result.now) }
+    {
+        self.library.loaded.tree(id)
     }
 
     /// The store, as it stands.
@@ -178,6 +189,6 @@ impl<F: Files> Classes for Fresh<F> {
     }
 
     fn set_cache(&mut self, id: ClassId, k: u16, value: u64) {
-        self.library.loaded.set_cache(id, k, value);
+        self.library.loaded.set_cache_word(id, k, value);
     }
 }

@@ -117,6 +117,16 @@ fn a_loaded_class_has_the_facts_of_its_file(rt: HostRuntime) -> Result<(), Fail>
     Ok(())
 }
 
+#[test]
+fn the_tree_of_a_loaded_class_names_it(rt: HostRuntime) -> Result<(), Fail> {
+    let mut fresh = two_classes(rt.alloc())?;
+    assert_eq!(rt; fresh.load(b"A", Loader::App), Ok(Ok(ClassId(2))));
+    let a = fresh.find_loaded(b"A").ok_or("no A")?;
+    let tree = fresh.tree(a);
+    assert_eq!(rt; tree.pool.class_name(tree.this), Some(b"A".as_slice()));
+    Ok(())
+}
+
 // Sets the cache word of a Class entry.
 fn set<C: Classes>(classes: &mut C, id: ClassId, k: u16, value: u64) -> bool
     requires { id.0 < length (C.classes classes.old) }

@@ -5,7 +5,7 @@ use Rattle.std.specs.HashMap.{HashMap}
 use Rattle.std.specs.List.{AllByRecursion}
 use Rattle.std.specs.Str.{bytes_eq}
 use Rattle.std.proofs.lemmas.Option.{slice_get_within}
-use Rattle.std.proofs.lemmas.List.{length-map, length-replicate}
+use Rattle.std.proofs.lemmas.List.{length-map, length-replicate, map-append}
 use Rattle.class_tree.specs.declared.tree.ClassTree.{ClassTree}
 use Rattle.class_tree.specs.declared.tree.FieldTree.{FieldTree}
 use Rattle.loader_rules.specs.declared.loader.Loader.{Loader}
@@ -20,8 +20,8 @@ use Rattle.class_record.specs.Built.{AreBuilt, size_of_super}
 use Rattle.class_record.specs.Records.{facts_of, instance_fields, is_static}
 use Rattle.loaded_classes.specs.declared.held.HeldClass.{HeldClass}
 use Rattle.loaded_classes.specs.declared.pushing.LookedUp.{LookedUp}
-use Rattle.loaded_classes.specs.Table.{ClassTable, added}
-use Rattle.loaded_classes.specs.Held.{IsId, AreIds, IsHeld, AreKept, Knows, known_at, facts_in, facts_list, table_of}
+use Rattle.loaded_classes.specs.Table.{ClassTable, added, next_facts}
+use Rattle.loaded_classes.specs.Held.{IsId, AreIds, IsHeld, AreKept, Knows, known_at, facts_in, facts_list, tree_in, trees_list, table_of}
 use Rattle.loaded_classes.specs.Bases.{base_id, base_ids, size_at, superinterface_ids}
 use Rattle.loaded_classes.specs.Pushing.{IsLookedUp, held_class}
 use Rattle.loaded_classes.proofs.Names.{name_is, held_name}
@@ -156,13 +156,14 @@ module _ {S : Type 0} (held : List HeldClass) (linked : List Bool) (words : List
         known = subst (λ (fs : List Facts). Knows after (names_of fs)) (sym (facts_grown held h)) known_new;
       }
 
-    abbrev table_with : List Facts → ClassTable
-    table_with fs = record { classes = fs; linked = linked ++ false ∷ []; words = words ++ replicate (length tree.pool) 0 ∷ [] }
+    abbrev table_with : List Facts → List ClassTree → ClassTable
+    table_with fs ts = record { classes = fs; trees = ts; linked = linked ++ false ∷ []; words = words ++ replicate (length tree.pool) 0 ∷ [] }
 
     -- what contracts see of it
     pub table_more : table_of (held ++ h ∷ []) (linked ++ false ∷ []) (words ++ replicate (length tree.pool) 0 ∷ []) ≡ added loader folder tree (table_of held linked words)
     table_more =
-        ap (λ (fs : List Facts). table_with fs) (facts_grown held h ∙ ap (λ (n : ℕ). facts_list held ++ facts_of loader folder n tree ∷ []) (above_is ∙ size_above))
+        ap (λ (fs : List Facts). table_with fs (trees_list (held ++ h ∷ []))) (facts_grown held h ∙ ap (λ (n : ℕ). facts_list held ++ facts_of loader folder n tree ∷ []) (above_is ∙ size_above))
+        ∙ ap (table_with (facts_list held ++ next_facts loader folder tree (facts_list held) ∷ [])) (map-append tree_in held (h ∷ []))
 
 -- Where memory ran out, all is as before.
 pub kept_still : {S : Type 0} (held : List HeldClass) (linked : List Bool) (words : List (List ℕ)) (old new : HashMap (Vec ℕ) ℕ S) → AreKept held linked words old → ((name : Name) → known_at new name ≡ known_at old name) → AreKept held linked words new

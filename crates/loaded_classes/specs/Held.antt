@@ -4,6 +4,7 @@ use Rattle.std.specs.Global.{Vec}
 use Rattle.std.specs.HashMap.{HashMap, get_by}
 use Rattle.std.specs.Str.{bytes_eq}
 use Rattle.loader_rules.specs.declared.loader.Loader.{Loader}
+use Rattle.class_tree.specs.declared.tree.ClassTree.{ClassTree}
 use Rattle.class_record.specs.declared.fault.TheConstants.{MAX_LOADED}
 use Rattle.class_record.specs.declared.fault.JavaFault.{JavaFault}
 use Rattle.class_record.specs.declared.fault.JavaFault.TheVariants.{NoClassDefFoundError}
@@ -23,6 +24,12 @@ facts_in h = facts_of h.loader h.folder h.above h.tree
 
 abbrev pub facts_list : List HeldClass → List Facts
 facts_list held = map facts_in held
+
+abbrev pub tree_in : HeldClass → ClassTree
+tree_in h = h.tree
+
+abbrev pub trees_list : List HeldClass → List ClassTree
+trees_list held = map tree_in held
 
 -- The name that is wanted is that of this class, which was loaded before the class `id`, or none is wanted.
 abbrev pub IsId : List Name → ℕ → Option Name → Option ℕ → Type 0
@@ -74,7 +81,7 @@ pub record AreKept {S : Type 0} (held : List HeldClass) (linked : List Bool) (wo
   pub known : Knows places (names_of (facts_list held))
 
 abbrev pub table_of : List HeldClass → List Bool → List (List ℕ) → ClassTable
-table_of held linked words = record { classes = facts_list held; linked = linked; words = words }
+table_of held linked words = record { classes = facts_list held; trees = trees_list held; linked = linked; words = words }
 
 -- ---- what a loader finds
 

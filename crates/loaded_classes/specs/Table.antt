@@ -9,14 +9,15 @@ use Rattle.class_record.specs.Ancestors.{newest}
 use Rattle.class_record.specs.Built.{size_of_super}
 use Rattle.class_record.specs.Records.{facts_of}
 
--- for each class in load order, what is known of it, whether it is linked, and its cache words
+-- for each class in load order, what is known of it, its class file, whether it is linked, and its cache words
 pub record ClassTable : Type 0 where
   pub classes : List Facts
+  pub trees : List ClassTree
   pub linked : List Bool
   pub words : List (List ℕ)
 
 abbrev pub empty_table : ClassTable
-empty_table = record { classes = []; linked = []; words = [] }
+empty_table = record { classes = []; trees = []; linked = []; words = [] }
 
 -- the facts of a class that is loaded next
 abbrev pub next_facts : Loader → ℕ → ClassTree → List Facts → Facts
@@ -26,6 +27,7 @@ next_facts loader folder tree classes = facts_of loader folder (size_of_super (n
 abbrev pub added : Loader → ℕ → ClassTree → ClassTable → ClassTable
 added loader folder tree t = record {
   classes = t.classes ++ next_facts loader folder tree t.classes ∷ [];
+  trees = t.trees ++ tree ∷ [];
   linked = t.linked ++ false ∷ [];
   words = t.words ++ replicate (length tree.pool) 0 ∷ [];
 }
@@ -57,10 +59,10 @@ word_at words id k = or_zero (slice_get (row_at words id) k)
 -- ---- what the calls leave
 
 abbrev pub with_link : ℕ → ClassTable → ClassTable
-with_link id t = record { classes = t.classes; linked = slice_set t.linked id true; words = t.words }
+with_link id t = record { classes = t.classes; trees = t.trees; linked = slice_set t.linked id true; words = t.words }
 
 abbrev pub with_word : ℕ → ℕ → ℕ → ClassTable → ClassTable
-with_word id k value t = record { classes = t.classes; linked = t.linked; words = slice_set t.words id (slice_set (row_at t.words id) k value) }
+with_word id k value t = record { classes = t.classes; trees = t.trees; linked = t.linked; words = slice_set t.words id (slice_set (row_at t.words id) k value) }
 
 -- a world that tells no files
 abbrev pub no_world : World

@@ -12,6 +12,7 @@ ghost use Rattle.loaded_classes.specs.Held.{facts_in, IsHeld, known_at, Finds};
 
 use crate::held::HeldClass;
 use class_record::{ClassId, JavaFault, sees};
+use class_tree::ClassTree;
 use indexmap::IndexMap;
 use loader_rules::Loader;
 use sqlite_items::{Items, at};
@@ -99,9 +100,18 @@ impl LoadedClasses {
     pub(crate) fn class(&self, id: ClassId) -> &HeldClass
         requires { id.0 < length self.now.classes }
         ensures is { slice_get self.now.classes id.0 ≡ Some (facts_in result.now) }
+        ensures tree { slice_get self.now.trees id.0 ≡ Some result.now.tree }
         ensures held { IsHeld self.now.classes id.0 result.now }
     {
         &self.classes[id.0 as usize]
+    }
+
+    /// The class file of a loaded class, as a tree.
+    pub fn tree(&self, id: ClassId) -> &ClassTree
+        requires { id.0 < length self.now.classes }
+        ensures { slice_get self.now.trees id.0 ≡ Some result.now }
+    {
+        &self.class(id).tree
     }
 
     pub(crate) fn named(&self, name: &[u8]) -> Option<ClassId>
@@ -145,6 +155,7 @@ impl LoadedClasses {
         requires { id.0 < length self.old.classes }
         ensures linked { (k : ℕ) → linked_at self.new.linked k ≡ (if k == id.0 then true else linked_at self.old.linked k) }
         ensures classes { self.new.classes ≡ self.old.classes }
+        ensures trees { self.new.trees ≡ self.old.trees }
         ensures words { self.new.words ≡ self.old.words }
     {
         self.note_link(id);
@@ -156,6 +167,19 @@ impl LoadedClasses {
         ensures within { id.0 < length self.old.linked }
     {
         self.linked[id.0 as usize] = true;
+    }
+
+    /// Sets a cache word of a loaded class.
+    pub fn set_cache_word(&mut self, id: ClassId, k: u16, value: u64)
+        requires loaded { id.0 < length self.old.classes }
+        requires within { k < length (pool_of self.old.classes id.0) }
+        ensures set { word_at self.new.words id.0 k ≡ value }
+        ensures words { (i j : ℕ) → ((i ≡ id.0) × (j ≡ k) → ⊥) → word_at self.new.words i j ≡ word_at self.old.words i j }
+        ensures classes { self.new.classes ≡ self.old.classes }
+        ensures trees { self.new.trees ≡ self.old.trees }
+        ensures linked { self.new.linked ≡ self.old.linked }
+    {
+        self.set_word(id, k, value);
     }
 
     pub(crate) fn set_word(&mut self, id: ClassId, k: u16, value: u64)
