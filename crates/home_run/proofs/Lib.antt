@@ -1,0 +1,3 @@
+pub mod Programs
+pub mod Starting
+pub mod Ending

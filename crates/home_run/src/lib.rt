@@ -1,0 +1,15 @@
+//! Runs a main class over a home: the required classes and those of the program are loaded from their files.
+#![tactic(auto)]
+
+mod end;
+mod listing;
+mod paths;
+mod program;
+mod request;
+mod running;
+#[cfg(test)]
+mod tests;
+
+pub use end::HomeEnd;
+pub use request::HomeRun;
+pub use running::run_home;
