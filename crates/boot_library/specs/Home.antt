@@ -6,9 +6,14 @@ use Rattle.jsa_files.specs.declared.fault.FilesFault.TheVariants as files
 use Rattle.class_tree.specs.declared.tree.ClassTree.{ClassTree}
 use Rattle.class_tree.specs.WellFormed.{class_name}
 use Rattle.class_asm.specs.Assembly.{assembled}
+use Rattle.boot_library.specs.declared.text.TheConstants.{BOOT_TEXT}
 use Rattle.boot_library.specs.declared.fault.HomeFault.{HomeFault}
 use Rattle.boot_library.specs.declared.fault.HomeFault.TheVariants.{Line, Files, Memory}
 use Rattle.boot_library.specs.ClassFiles.{File, files_of, after_files, WritesSome, FailsAt}
+
+-- the text of the boot library, in the language of the assembler
+unfoldable pub boot_text : List ℕ
+boot_text = BOOT_TEXT.now
 
 -- ---- the files of a home
 

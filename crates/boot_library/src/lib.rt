@@ -1,4 +1,4 @@
-//! The boot library: the classes that every run begins with, as an assembler text.
+//! The boot library: the classes that every run over a home begins with, and some more, as an assembler text.
 #![tactic(auto)]
 
 mod builders;

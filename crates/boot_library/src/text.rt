@@ -1,6 +1,6 @@
 //! The text of the boot library.
 ghost use Rattle.std.specs.Prelude.{◌≡◌, ◌<◌, ◌-◌, ◌^◌, length};
-ghost use Rattle.boot_library.specs.declared.text.TheConstants.{BOOT_TEXT};
+ghost use Rattle.boot_library.specs.Home.{boot_text};
 
 use crate::builders::builders;
 use crate::classes::classes;
@@ -23,10 +23,11 @@ macro_rules! joined {
 const BOOT_TEXT: &str =
     objects!([strings classes errors exceptions streams builders numbers values further joined]);
 
-/// The classes of the boot library in the language of the assembler: first the 38 that every run begins with, in the order
+/// The classes of the boot library in the language of the assembler: first the 38 that every run over a home begins with, in the order
 /// in which they are loaded, then the others.
+#[tactic(auto, unfolding(crate::specs::Home::boot_text))]
 pub fn boot_text() -> &'static str
-    ensures value { result.now ≡ BOOT_TEXT.now }
+    ensures value { result.now ≡ boot_text }
     ensures short { length result.now < 2 ^ 32 - 1 }
 {
     BOOT_TEXT
