@@ -1,4 +1,4 @@
--- A dump's archive is at no path of a class file.
+-- A dump's archive, and the class list of a run over a home, are at no path of a class file.
 use Rattle.std.proofs.Common.{◌≡◌, ◌==◌, ℕ, List, [], ◌∷◌, length, Bool, true, false, not, ◌&&◌, cond, IsTrue, codes, Option, Some, None, refl, ap, subst}
 use Rattle.std.specs.Prelude.{is_none}
 use Rattle.std.specs.FinMap.{get}
@@ -8,10 +8,13 @@ use Rattle.jsa_base.specs.Reading.{◌>>=◌, when}
 use Rattle.jsa_base.proofs.Codecs.{some_is}
 use Rattle.jsa_files.specs.Store.{Contents, Store}
 use Rattle.jsa.specs.declared.words.Sharing.{Sharing}
-use Rattle.jsa.specs.Words.{ends_in, has_no_colon, is_archive_path, behind, archive_path, archive_option, list_option, steps_option, sharing_option, folder_option, once, Taken, nothing, with_folder, with_archive, with_list, with_steps, with_sharing, with_word, with_words, options_from, is_dump, run_with, dump_with, internal_name, request_with, request_by_options, request_of, Request, Run, Dump, Asm, RunRequest, DumpRequest}
+use Rattle.jsa.specs.Words.{ends_in, has_no_colon, is_archive_path, behind, archive_path, archive_option, list_option, steps_option, sharing_option, folder_option, once, Taken, nothing, with_folder, with_archive, with_list, with_steps, with_sharing, with_word, with_words, options_from, is_dump, run_with, dump_with, internal_name, RunRequest, DumpRequest}
+use Rattle.jsa.specs.Grammar.{request_with, request_by_options, request_of, Request, Run, Dump, Asm, HomeRun, MakeHome}
+use Rattle.home_run.specs.Requests.{HomeRequest}
 use Rattle.jsa.specs.Stores.{contents_told}
-use Rattle.jsa.specs.Command.{OthersStay, Leaves, ClassFilesStay, KeepsClassFiles}
+use Rattle.jsa.specs.Command.{OthersStay, HomeRunLeaves, Leaves, ClassFilesStay, KeepsClassFiles}
 use Rattle.jsa.proofs.Options.{dump_options}
+use Rattle.jsa.proofs.HomePaths.{home_list_apart}
 
 -- ---- an archive that was taken
 
@@ -163,9 +166,15 @@ others_stay archive None new apart h = h
 others_stay archive (Some old) None apart h = h
 others_stay archive (Some old) (Some new) apart h = λ path ends. h path (λ e. false≢true (subst IsTrue apart (subst (λ (p : List ℕ). IsTrue (ends_in (codes ".class") p)) e ends)))
 
--- The class files hold what they held, unless an assembly is asked for.
+home_stays : (words : List (List ℕ)) (r : HomeRequest) (list : Option (List ℕ)) (old new : Option Contents) → request_of words ≡ Some (HomeRun r) → r.list ≡ list → HomeRunLeaves list old new → ClassFilesStay old new
+home_stays words r None old new e is h = all_stay old new h
+home_stays words r (Some path) old new e is h = others_stay path old new (home_list_apart words r path e is) h
+
+-- The class files hold what they held, unless an assembly or the making of a home is asked for.
 pub classes_stay : (request : Option Request) (words : List (List ℕ)) (old new : Option Store) → request_of words ≡ request → Leaves request old new → KeepsClassFiles request (contents_told old) (contents_told new)
 classes_stay None words old new e h = all_stay (contents_told old) (contents_told new) h
 classes_stay (Some (Run r)) words old new e h = all_stay (contents_told old) (contents_told new) h
 classes_stay (Some (Dump d)) words old new e h = others_stay d.archive (contents_told old) (contents_told new) (dump_archive words d e) h
 classes_stay (Some (Asm a)) words old new e h = tt
+classes_stay (Some (HomeRun r)) words old new e h = home_stays words r r.list (contents_told old) (contents_told new) e refl h
+classes_stay (Some (MakeHome dir)) words old new e h = tt

@@ -23,7 +23,7 @@ use Rattle.std.proofs.lemmas.List.{length-append}
 use Rattle.jsa.specs.declared.archive_run.ArchiveAndManifest.{ArchiveAndManifest}
 use Rattle.jsa.specs.Steps.{OpensAs, IsSmallIn}
 use Rattle.jsa.specs.declared.ended.Ended.{Ended}
-use Rattle.jsa.specs.declared.ended.Ended.TheVariants.{Exit, Usage, BadText, NoMain, Missing, NotShared, Stopped, Unsupported, ReadFault, WriteFault, Limit, Memory}
+use Rattle.jsa.specs.declared.ended.Ended.TheVariants.{Exit, Usage, BadText, NoBoot, NoMain, Missing, NotShared, Stopped, Unsupported, ReadFault, WriteFault, Limit, Memory}
 use Rattle.jsa.specs.Words.{RunRequest, path_of}
 use Rattle.jsa.specs.Stores.{IsAt, contents_told, reads_told, ReadsBy}
 use Rattle.jsa.specs.Faults.{end_of}
@@ -80,6 +80,7 @@ taken_or_fault : (contents : Option Contents) (old new : Option (List (List ℕ)
 taken_or_fault contents old new r bytes now before after (Exit code) t = t
 taken_or_fault contents old new r bytes now before after Usage t = absurd t.answer
 taken_or_fault contents old new r bytes now before after (BadText number) t = absurd t.answer
+taken_or_fault contents old new r bytes now before after NoBoot t = absurd t.answer
 taken_or_fault contents old new r bytes now before after NoMain t = t
 taken_or_fault contents old new r bytes now before after Missing t = absurd t.answer
 taken_or_fault contents old new r bytes now before after (NotShared refuse) t = absurd t.answer
@@ -132,6 +133,7 @@ pub behind : (contents : Option Contents) (a b c : Option (List (List ℕ))) (fi
 behind contents a b c first r bytes now before after (Exit code) h m = taken_behind contents a b c first r bytes now before after (Exit code) h m
 behind contents a b c first r bytes now before after Usage h m = absurd m
 behind contents a b c first r bytes now before after (BadText number) h m = absurd m
+behind contents a b c first r bytes now before after NoBoot h m = absurd m
 behind contents a b c first r bytes now before after NoMain h m = taken_behind contents a b c first r bytes now before after NoMain h m
 behind contents a b c first r bytes now before after Missing h m = absurd m
 behind contents a b c first r bytes now before after (NotShared refuse) h m = (record { on = m.0.on; refused = m.0.refused; reads = behind_first a b c first [] Usage h m.0.reads }, m.1)
@@ -149,6 +151,7 @@ opens_memory : (contents : Option Contents) (old new : Option (List (List ℕ)))
 opens_memory contents old new folder archive (Exit code) h = absurd h
 opens_memory contents old new folder archive Usage h = absurd h
 opens_memory contents old new folder archive (BadText number) h = absurd h
+opens_memory contents old new folder archive NoBoot h = absurd h
 opens_memory contents old new folder archive NoMain h = absurd h
 opens_memory contents old new folder archive Missing h = absurd h
 opens_memory contents old new folder archive (NotShared refuse) h = absurd h
@@ -179,6 +182,7 @@ mapped_memory : (contents : Option Contents) (old new : Option (List (List ℕ))
 mapped_memory contents old new first r bytes now before after (Exit code) m = inr (taken_memory contents old new first r bytes now before after (Exit code) m)
 mapped_memory contents old new first r bytes now before after Usage m = absurd m
 mapped_memory contents old new first r bytes now before after (BadText number) m = absurd m
+mapped_memory contents old new first r bytes now before after NoBoot m = absurd m
 mapped_memory contents old new first r bytes now before after NoMain m = inr (taken_memory contents old new first r bytes now before after NoMain m)
 mapped_memory contents old new first r bytes now before after Missing m = absurd m
 mapped_memory contents old new first r bytes now before after (NotShared refuse) m = inl (m.0.reads, m.1)

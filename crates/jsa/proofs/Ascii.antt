@@ -1,5 +1,5 @@
 -- The path of a main class: its name is letters, digits, _ and $ of ASCII between slashes.
-use Rattle.std.proofs.Common.{◌≡◌, ◌+◌, ◌<◌, ◌≤◌, arith, ℕ, ◌==◌, List, [], ◌∷◌, ◌++◌, length, Bool, true, false, not, ◌||◌, cond, Option, Some, None, unwrap_or, is_none, All, count_by, IsAscii, codes, refl, ap, subst, ◌∙◌}
+use Rattle.std.proofs.Common.{◌≡◌, ◌+◌, ◌<◌, ◌≤◌, arith, ℕ, ◌==◌, List, [], ◌∷◌, ◌++◌, length, Bool, true, false, not, ◌&&◌, ◌||◌, cond, Option, Some, None, unwrap_or, is_none, All, count_by, IsAscii, codes, refl, ap, subst, ◌∙◌}
 use Rattle.std.specs.List.{list_all, slice_split, join_with_byte}
 use Rattle.std.specs.Option.{option_map}
 use Rattle.std.specs.Char.Utf16.{utf16_chars, lone_unit_char}
@@ -16,7 +16,8 @@ use Rattle.jsa_names.specs.Texts.{is_one, second_at, before, units_of}
 use Rattle.jsa_names.proofs.Forms.{goes}
 use Rattle.jsa_names.proofs.NameTexts.{whole_text}
 use Rattle.jsa.proofs.Options.{run_options}
-use Rattle.jsa.specs.Words.{is_word_byte, is_segment, segments_of, internal_name, Taken, is_on, default_steps, run_with, dump_with, request_with, options_from, nothing, request_by_options, request_of, Run, Dump, RunRequest, DumpRequest}
+use Rattle.jsa.specs.Words.{is_word_byte, is_segment, segments_of, internal_name, Taken, is_on, default_steps, run_with, dump_with, options_from, nothing, RunRequest, DumpRequest}
+use Rattle.jsa.specs.Grammar.{request_with, request_by_options, request_of, Run, Dump}
 
 -- ---- a byte of a segment
 
@@ -169,15 +170,16 @@ name_of o = option_map (λ r. r.name) o
 
 run_name : (t : Taken) (main : Option (List ℕ)) (r : RunRequest) → run_with t main ≡ Some r → main ≡ Some r.name
 unfolding run_with name_of
-run_name t main r e = parts t.folder (is_on t.sharing) (when (is_none t.list)) main (ap name_of e)
+run_name t main r e = parts t.folder (is_on t.sharing) (when (is_none t.list)) (when (not (is_none t.archive && is_none t.sharing))) main (ap name_of e)
   where
-    parts : (folder : Option (List ℕ)) (on : Option Bool) (listless : Option (Unit {0})) (main : Option (List ℕ))
-        → name_of (folder >>= λ f. (on >>= λ o. (listless >>= λ l. (main >>= λ n. Some (record { folder = f; on = o; archive = t.archive; steps = unwrap_or t.steps default_steps; name = n }))))) ≡ Some r.name → main ≡ Some r.name
-    parts None on listless main h = absurd cc
-    parts (Some f) None listless main h = absurd cc
-    parts (Some f) (Some o) None main h = absurd cc
-    parts (Some f) (Some o) (Some l) None h = absurd cc
-    parts (Some f) (Some o) (Some l) (Some n) h = h
+    parts : (folder : Option (List ℕ)) (on : Option Bool) (listless shared : Option (Unit {0})) (main : Option (List ℕ))
+        → name_of (folder >>= λ f. (on >>= λ o. (listless >>= λ l. (shared >>= λ s. (main >>= λ n. Some (record { folder = f; on = o; archive = t.archive; steps = unwrap_or t.steps default_steps; name = n })))))) ≡ Some r.name → main ≡ Some r.name
+    parts None on listless shared main h = absurd cc
+    parts (Some f) None listless shared main h = absurd cc
+    parts (Some f) (Some o) None shared main h = absurd cc
+    parts (Some f) (Some o) (Some l) None main h = absurd cc
+    parts (Some f) (Some o) (Some l) (Some s) None h = absurd cc
+    parts (Some f) (Some o) (Some l) (Some s) (Some n) h = h
 
 with_name : (t : Taken) (left : List (List ℕ)) (r : RunRequest) → request_with t left ≡ Some (Run r) → (word : List ℕ) × (internal_name word ≡ Some r.name)
 unfolding request_with

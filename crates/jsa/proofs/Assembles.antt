@@ -21,11 +21,12 @@ use Rattle.jsa_names.specs.Paths as names
 use Rattle.jsa.specs.declared.assembling.ClassFault.{ClassFault}
 use Rattle.jsa.specs.declared.assembling.ClassFault.TheVariants as class_faults
 use Rattle.jsa.specs.declared.ended.Ended.{Ended}
-use Rattle.jsa.specs.declared.ended.Ended.TheVariants.{Exit, Usage, BadText, NoMain, Missing, NotShared, Stopped, Unsupported, ReadFault, WriteFault, Limit, Memory}
+use Rattle.jsa.specs.declared.ended.Ended.TheVariants.{Exit, Usage, BadText, NoBoot, NoMain, Missing, NotShared, Stopped, Unsupported, ReadFault, WriteFault, Limit, Memory}
 use Rattle.jsa.specs.Words.{AsmRequest}
-use Rattle.jsa.specs.Stores.{contents_told, reads_told, HoldsFront, ReadsBy}
+use Rattle.jsa.specs.Stores.{contents_told, reads_told, ReadsBy}
 use Rattle.jsa.specs.Runs.{ReadsPath}
-use Rattle.jsa.specs.Assembles.{ClassFile, path_of_tree, file_of_tree, files_of, with_files, after_files, HasText, IsAssembled, files_asked, WritesSome, FailsAt, AsmAnswers, IsNoneOf, AsmLeaves}
+use Rattle.jsa.specs.Assembles.{HasText, IsAssembled, files_asked, AsmAnswers, IsNoneOf, AsmLeaves}
+use Rattle.boot_library.specs.ClassFiles.{HoldsFront, File, path_of_tree, file_of_tree, files_of, with_files, after_files, WritesSome, FailsAt}
 use Rattle.jsa.specs.Steps.{file_at, WritesFiles, CountsWritten, end_of_writes, IsOfText}
 use Rattle.jsa.specs.Command.{CountsReads, CountsWrites}
 use Rattle.jsa.proofs.Inserted.{get_other}
@@ -39,7 +40,7 @@ after_none None = refl
 after_none (Some contents) = refl
 
 -- Nothing was written.
-pub writes_none : (old new : Option Contents) (files : List ClassFile) → new ≡ old → WritesSome old new files
+pub writes_none : (old new : Option Contents) (files : List File) → new ≡ old → WritesSome old new files
 writes_none old new files e = record { done = []; rest = files; among = refl; holds = e ∙ after_none old }
 
 -- The write of a file failed.
@@ -65,18 +66,18 @@ one_file folder tree path bytes e b =
 
 -- ---- files one after the other
 
-after_more : (old : Option Contents) (file : ClassFile) (files : List ClassFile) → after_files (after_files old (file ∷ [])) files ≡ after_files old (file ∷ files)
+after_more : (old : Option Contents) (file : File) (files : List File) → after_files (after_files old (file ∷ [])) files ≡ after_files old (file ∷ files)
 after_more None file files = refl
 after_more (Some contents) file files = refl
 
-then_file : {T : Type 0} (file : ClassFile) (old mid new : Option Contents) (faults : ℕ × ℕ) (rest : List ClassFile) (r : Result T ClassFault) → mid ≡ after_files old (file ∷ []) → WritesFiles mid new faults rest r → WritesFiles old new faults (file ∷ rest) r
+then_file : {T : Type 0} (file : File) (old mid new : Option Contents) (faults : ℕ × ℕ) (rest : List File) (r : Result T ClassFault) → mid ≡ after_files old (file ∷ []) → WritesFiles mid new faults rest r → WritesFiles old new faults (file ∷ rest) r
 then_file file old mid new faults rest (Ok x) e h = h ∙ ap (λ (o : Option Contents). after_files o rest) e ∙ after_more old file rest
 then_file file old mid new faults rest (Err class_faults.Write) e h = (
   record {
     done = file ∷ h.0.done;
     file = h.0.file;
     rest = h.0.rest;
-    among = ap (λ (l : List ClassFile). file ∷ l) h.0.among;
+    among = ap (λ (l : List File). file ∷ l) h.0.among;
     holds = subst (λ (o : Option Contents). (new ≡ o) ⊎ HoldsFront o new h.0.file.path h.0.file.bytes) (ap (λ (o : Option Contents). after_files o h.0.done) e ∙ after_more old file h.0.done) h.0.holds;
   },
   h.1,
@@ -84,22 +85,22 @@ then_file file old mid new faults rest (Err class_faults.Write) e h = (
 then_file file old mid new faults rest (Err class_faults.Memory) e h = record {
   done = file ∷ h.done;
   rest = h.rest;
-  among = ap (λ (l : List ClassFile). file ∷ l) h.among;
+  among = ap (λ (l : List File). file ∷ l) h.among;
   holds = h.holds ∙ ap (λ (o : Option Contents). after_files o h.done) e ∙ after_more old file h.done;
 }
 
 -- The file of a class was written, if it has one, and then the others.
-pub then_files : {T : Type 0} (o : Option ClassFile) (old mid new : Option Contents) (faults : ℕ × ℕ) (rest : List ClassFile) (r : Result T ClassFault) → mid ≡ after_files old (cons_option o []) → WritesFiles mid new faults rest r → WritesFiles old new faults (cons_option o rest) r
+pub then_files : {T : Type 0} (o : Option File) (old mid new : Option Contents) (faults : ℕ × ℕ) (rest : List File) (r : Result T ClassFault) → mid ≡ after_files old (cons_option o []) → WritesFiles mid new faults rest r → WritesFiles old new faults (cons_option o rest) r
 then_files None old mid new faults rest r e h = subst (λ (c : Option Contents). WritesFiles c new faults rest r) (e ∙ sym (after_none old)) h
 then_files (Some file) old mid new faults rest r e h = then_file file old mid new faults rest r e h
 
-before_others : (T : Type 0) (old new : Option Contents) (faults : ℕ × ℕ) (files others : List ClassFile) (fault : ClassFault) → WritesFiles {T = T} old new faults files (Err fault) → WritesFiles {T = T} old new faults (files ++ others) (Err fault)
+before_others : (T : Type 0) (old new : Option Contents) (faults : ℕ × ℕ) (files others : List File) (fault : ClassFault) → WritesFiles {T = T} old new faults files (Err fault) → WritesFiles {T = T} old new faults (files ++ others) (Err fault)
 before_others T old new faults files others class_faults.Write h = (
   record {
     done = h.0.done;
     file = h.0.file;
     rest = h.0.rest ++ others;
-    among = ap (λ (l : List ClassFile). l ++ others) h.0.among ∙ append_assoc h.0.done (h.0.file ∷ h.0.rest) others;
+    among = ap (λ (l : List File). l ++ others) h.0.among ∙ append_assoc h.0.done (h.0.file ∷ h.0.rest) others;
     holds = h.0.holds;
   },
   h.1,
@@ -107,11 +108,11 @@ before_others T old new faults files others class_faults.Write h = (
 before_others T old new faults files others class_faults.Memory h = record {
   done = h.done;
   rest = h.rest ++ others;
-  among = ap (λ (l : List ClassFile). l ++ others) h.among ∙ append_assoc h.done h.rest others;
+  among = ap (λ (l : List File). l ++ others) h.among ∙ append_assoc h.done h.rest others;
   holds = h.holds;
 }
 
-cons_append : (o : Option ClassFile) (others : List ClassFile) → cons_option o [] ++ others ≡ cons_option o others
+cons_append : (o : Option File) (others : List File) → cons_option o [] ++ others ≡ cons_option o others
 cons_append None others = refl
 cons_append (Some file) others = refl
 
@@ -130,7 +131,7 @@ stopped T folder rest tree more old new faults fault e h =
     let one = file_of_tree folder tree in
     let all = before_others T old new faults (cons_option one []) (files_of folder more) fault h in
     subst (λ (l : List ClassTree). WritesFiles {T = T} old new faults (files_of folder l) (Err fault)) (sym e)
-    (subst (λ (l : List ClassFile). WritesFiles {T = T} old new faults l (Err fault)) (cons_append one (files_of folder more)) all)
+    (subst (λ (l : List File). WritesFiles {T = T} old new faults l (Err fault)) (cons_append one (files_of folder more)) all)
 
 -- No class is left.
 pub none_left : (folder : List ℕ) (rest : List ClassTree) (old : Option Contents) → length rest < 1 → old ≡ after_files old (files_of folder rest)
@@ -139,12 +140,12 @@ none_left folder (tree ∷ rest) old h = absurd (omega (arith, h))
 
 -- ---- the text
 
-by_name : (folder bytes : List ℕ) (name : Option (List ℕ)) → HasPath folder name → (file : ClassFile) × (option_map (λ path. record { path = path; bytes = bytes }) (option_and_then (names.path_of folder) name) ≡ Some file)
+by_name : (folder bytes : List ℕ) (name : Option (List ℕ)) → HasPath folder name → (file : File) × (option_map (λ path. record { path = path; bytes = bytes }) (option_and_then (names.path_of folder) name) ≡ Some file)
 by_name folder bytes None h = absurd h
 by_name folder bytes (Some name) h = (record { path = h.0; bytes = bytes }, ap (option_map (λ (path : List ℕ). record { path = path; bytes = bytes })) h.1)
 
-first_more : (found : Option ClassFile) (file : ClassFile) (others : List ClassFile) (n : ℕ) → found ≡ Some file → length others ≡ n → length (cons_option found others) ≡ suc n
-first_more found file others n is e = ap (λ (o : Option ClassFile). length (cons_option o others)) is ∙ ap suc e
+first_more : (found : Option File) (file : File) (others : List File) (n : ℕ) → found ≡ Some file → length others ≡ n → length (cons_option found others) ≡ suc n
+first_more found file others n is e = ap (λ (o : Option File). length (cons_option o others)) is ∙ ap suc e
 
 -- Each class of a text has a file.
 each_file : (folder : List ℕ) (trees : List ClassTree) → AllByRecursion (λ t. HasPath folder (class_name t.pool t.this)) trees → length (files_of folder trees) ≡ length trees
@@ -178,6 +179,7 @@ reads_of_text old new path (BadText number) k h = h
 reads_of_text old new path WriteFault k h = h
 reads_of_text old new path Memory k h = inr h
 reads_of_text old new path Usage k h = absurd k
+reads_of_text old new path NoBoot k h = absurd k
 reads_of_text old new path NoMain k h = absurd k
 reads_of_text old new path Missing k h = absurd k
 reads_of_text old new path (NotShared refuse) k h = absurd k
@@ -192,6 +194,7 @@ text_not_read before now (BadText number) k e = e
 text_not_read before now WriteFault k e = e
 text_not_read before now Memory k e = omega (arith, e)
 text_not_read before now Usage k e = absurd k
+text_not_read before now NoBoot k e = absurd k
 text_not_read before now NoMain k e = absurd k
 text_not_read before now Missing k e = absurd k
 text_not_read before now (NotShared refuse) k e = absurd k
@@ -227,6 +230,7 @@ asm_memory old new faults a (Limit Classes limit) h = absurd h
 asm_memory old new faults a (Limit ArchiveSize limit) h = absurd h
 asm_memory old new faults a (Limit Loaded limit) h = absurd h
 asm_memory old new faults a Usage h = absurd h
+asm_memory old new faults a NoBoot h = absurd h
 asm_memory old new faults a NoMain h = absurd h
 asm_memory old new faults a (NotShared refuse) h = absurd h
 asm_memory old new faults a Stopped h = absurd h
@@ -237,16 +241,16 @@ asm_memory old new faults a Memory h = h
 
 -- ---- what stays
 
-none_front : (path : List ℕ) (done rest : List ClassFile) → IsNoneOf path (done ++ rest) → IsNoneOf path done
+none_front : (path : List ℕ) (done rest : List File) → IsNoneOf path (done ++ rest) → IsNoneOf path done
 none_front path [] rest h = tt
 none_front path (file ∷ done) rest h = (h.0, none_front path done rest h.1)
 
-none_next : (path : List ℕ) (done : List ClassFile) (file : ClassFile) (rest : List ClassFile) → IsNoneOf path (done ++ file ∷ rest) → path ≢ file.path
+none_next : (path : List ℕ) (done : List File) (file : File) (rest : List File) → IsNoneOf path (done ++ file ∷ rest) → path ≢ file.path
 none_next path [] file rest h = h.0
 none_next path (first ∷ done) file rest h = none_next path done file rest h.1
 
 -- A path that none of the files has holds what it held.
-others_held : (contents : Contents) (files : List ClassFile) (path : List ℕ) → IsNoneOf path files → get (with_files contents files) path ≡ get contents path
+others_held : (contents : Contents) (files : List File) (path : List ℕ) → IsNoneOf path files → get (with_files contents files) path ≡ get contents path
 others_held contents [] path h = refl
 others_held contents (file ∷ files) path h = others_held (insert contents file.path file.bytes) files path h.1 ∙ get_other contents file.path file.bytes path h.0
 
@@ -255,25 +259,52 @@ asm_same a None new e = e
 asm_same a (Some old) None e = absurd cc
 asm_same a (Some old) (Some new) e = λ path others. ap (λ (c : Contents). get c path) (some_is new old e)
 
-asm_some : (a : AsmRequest) (old new : Option Contents) (x : IsAssembled old a) → WritesSome old new (files_asked x) → AsmLeaves a old new
-asm_some a None new x w = w.holds
-asm_some a (Some old) None x w = absurd (let h = w.holds in cc)
-asm_some a (Some old) (Some new) x w = λ path others.
+-- The first of the files were written, or one of them not.
+pub some_stay : (old new : Contents) (files : List File) → WritesSome (Some old) (Some new) files → (path : List ℕ) → IsNoneOf path files → get new path ≡ get old path
+some_stay old new files w path none =
     ap (λ (c : Contents). get c path) (some_is new (with_files old w.done) w.holds)
-    ∙ others_held old w.done path (none_front path w.done w.rest (subst (IsNoneOf path) w.among (others x)))
+    ∙ others_held old w.done path (none_front path w.done w.rest (subst (IsNoneOf path) w.among none))
+
+pub fails_stay : (old new : Contents) (files : List File) → FailsAt (Some old) (Some new) files → (path : List ℕ) → IsNoneOf path files → get new path ≡ get old path
+fails_stay old new files w path none = by_holds w.holds
+  where
+    by_holds : (Some new ≡ after_files (Some old) w.done) ⊎ HoldsFront (after_files (Some old) w.done) (Some new) w.file.path w.file.bytes → get new path ≡ get old path
+    by_holds (inl e) = some_stay old new files (record { done = w.done; rest = w.file ∷ w.rest; among = w.among; holds = e }) path none
+    by_holds (inr f) =
+        let other : IsNoneOf path (w.done ++ w.file ∷ w.rest) = subst (IsNoneOf path) w.among none in
+        ap (λ (c : Contents). get c path) (some_is new (insert (with_files old w.done) w.file.path f.front) f.holds)
+        ∙ get_other (with_files old w.done) w.file.path f.front path (none_next path w.done w.file w.rest other)
+        ∙ others_held old w.done path (none_front path w.done (w.file ∷ w.rest) other)
+
+pub some_told : (old : Contents) (new : Option Contents) (files : List File) → WritesSome (Some old) new files → (c : Contents) × (new ≡ Some c)
+some_told old new files w = (with_files old w.done, w.holds)
+
+pub fails_told : (old : Contents) (new : Option Contents) (files : List File) → FailsAt (Some old) new files → (c : Contents) × (new ≡ Some c)
+fails_told old new files w = by w.holds
+  where
+    by : (new ≡ after_files (Some old) w.done) ⊎ HoldsFront (after_files (Some old) w.done) new w.file.path w.file.bytes → (c : Contents) × (new ≡ Some c)
+    by (inl e) = (with_files old w.done, e)
+    by (inr f) = (insert (with_files old w.done) w.file.path f.front, f.holds)
+
+pub some_untold : (new : Option Contents) (files : List File) → WritesSome None new files → new ≡ None
+some_untold new files w = w.holds
+
+pub fails_untold : (new : Option Contents) (files : List File) → FailsAt None new files → new ≡ None
+fails_untold new files w = by w.holds
+  where
+    by : (new ≡ after_files None w.done) ⊎ HoldsFront (after_files None w.done) new w.file.path w.file.bytes → new ≡ None
+    by (inl e) = e
+    by (inr f) = f.holds
+
+asm_some : (a : AsmRequest) (old new : Option Contents) (x : IsAssembled old a) → WritesSome old new (files_asked x) → AsmLeaves a old new
+asm_some a None new x w = some_untold new (files_asked x) w
+asm_some a (Some old) None x w = absurd (let h = w.holds in cc)
+asm_some a (Some old) (Some new) x w = λ path others. some_stay old new (files_asked x) w path (others x)
 
 asm_fails : (a : AsmRequest) (old new : Option Contents) (x : IsAssembled old a) → FailsAt old new (files_asked x) → AsmLeaves a old new
-asm_fails a old new x w = by_holds old new x w w.holds
-  where
-    by_holds : (old new : Option Contents) (x : IsAssembled old a) (w : FailsAt old new (files_asked x)) → (new ≡ after_files old w.done) ⊎ HoldsFront (after_files old w.done) new w.file.path w.file.bytes → AsmLeaves a old new
-    by_holds old new x w (inl e) = asm_some a old new x (record { done = w.done; rest = w.file ∷ w.rest; among = w.among; holds = e })
-    by_holds None new x w (inr f) = f.holds
-    by_holds (Some old) None x w (inr f) = absurd (let h = f.holds in cc)
-    by_holds (Some old) (Some new) x w (inr f) = λ path others.
-        let none : IsNoneOf path (w.done ++ w.file ∷ w.rest) = subst (IsNoneOf path) w.among (others x) in
-        ap (λ (c : Contents). get c path) (some_is new (insert (with_files old w.done) w.file.path f.front) f.holds)
-        ∙ get_other (with_files old w.done) w.file.path f.front path (none_next path w.done w.file w.rest none)
-        ∙ others_held old w.done path (none_front path w.done (w.file ∷ w.rest) none)
+asm_fails a None new x w = fails_untold new (files_asked x) w
+asm_fails a (Some old) None x w = absurd (let h = (fails_told old None (files_asked x) w).1 in cc)
+asm_fails a (Some old) (Some new) x w = λ path others. fails_stay old new (files_asked x) w path (others x)
 
 asm_all : (a : AsmRequest) (old new : Option Contents) (x : IsAssembled old a) → new ≡ after_files old (files_asked x) → AsmLeaves a old new
 asm_all a old new x e = asm_some a old new x (record { done = files_asked x; rest = []; among = sym (append-nil (files_asked x)); holds = e })
@@ -288,6 +319,7 @@ asm_leaves old new faults a (Limit Classes limit) h = absurd h
 asm_leaves old new faults a (Limit ArchiveSize limit) h = absurd h
 asm_leaves old new faults a (Limit Loaded limit) h = absurd h
 asm_leaves old new faults a Usage h = absurd h
+asm_leaves old new faults a NoBoot h = absurd h
 asm_leaves old new faults a NoMain h = absurd h
 asm_leaves old new faults a (NotShared refuse) h = absurd h
 asm_leaves old new faults a Stopped h = absurd h

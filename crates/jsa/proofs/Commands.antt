@@ -3,7 +3,13 @@ use Rattle.std.proofs.Common.{◌≡◌, ◌≢◌, inl, inr, ℕ, List, [], ◌
 use Rattle.jsa_files.specs.Store.{Contents, Store}
 use Rattle.jsa.specs.declared.ended.Ended.{Ended}
 use Rattle.jsa.specs.declared.ended.Ended.TheVariants.{Usage, Memory}
-use Rattle.jsa.specs.Words.{Request, Run, Dump, Asm, RunRequest, path_of}
+use Rattle.jsa.specs.Words.{RunRequest, path_of}
+use Rattle.jsa.specs.Grammar.{Request, Run, Dump, Asm, HomeRun, MakeHome}
+use Rattle.std.specs.Prelude.{Err}
+use Rattle.boot_library.specs.declared.fault.HomeFault.TheVariants as home
+use Rattle.home_run.specs.declared.end.HomeEnd.TheVariants as ends
+use Rattle.home_run.specs.Requests.{HomeRequest}
+use Rattle.home_run.specs.Answers.{AnswersRun}
 use Rattle.jsa.specs.Stores.{contents_told, reads_told}
 use Rattle.jsa.specs.Runs.{PathAnswers}
 use Rattle.jsa.specs.Lines.{TakesLine, TakesFront, line_of}
@@ -20,12 +26,18 @@ run_nothing : (archive : Option (List ℕ)) (store : Option Store) (r : RunReque
 run_nothing None store r out = (path_nothing (contents_told store) (path_of r) r.steps out, inl refl)
 run_nothing (Some archive) store r out = inl (front_none (reads_told store) (reads_told store) (archive ∷ []) refl, refl)
 
+run_memory : (store : Option Store) (faults : ℕ × ℕ) (r : HomeRequest) (out : Option (List ℕ)) → AnswersRun store store faults r out out ends.Memory
+run_memory None faults r out = (inl refl, refl)
+run_memory (Some s) faults r out = (inl refl, refl)
+
 -- Memory is an answer to any words.
 nothing : (request : Option Request) (store : Option Store) (faults : ℕ × ℕ) (out : Option (List ℕ)) → RequestAnswers request store store faults out out [] Memory
 nothing None store faults out = (inr refl, refl, refl)
 nothing (Some (Run r)) store faults out = (run_nothing r.archive store r out, inl refl)
 nothing (Some (Dump d)) store faults out = (inl (refl, refl), λ e. absurd cc)
 nothing (Some (Asm a)) store faults out = (inl refl, inl refl, refl, λ e. absurd cc)
+nothing (Some (HomeRun r)) store faults out = record { end = ends.Memory; run = run_memory store faults r out; is = inr refl; tells = inl refl }
+nothing (Some (MakeHome dir)) store faults out = (record { made = Err home.Memory; answer = inl refl; is = inr refl }, refl, refl)
 
 pub no_memory : (request : Option Request) (store : Option Store) (faults : ℕ × ℕ) (out before after : Option (List ℕ)) (old new : ℕ) (can_fail : Type 0) (result : Ended) → IsOrMemory result Memory
     → Answered (RequestAnswers request store store faults out out) (steps_of request) before after old new can_fail result

@@ -28,14 +28,17 @@ use Rattle.archive_mapper.proofs.Stages.{as_one}
 use Rattle.vm_run.specs.declared.machine.End.{End}
 use Rattle.vm_run.specs.declared.machine.End.TheVariants as ends
 use Rattle.jsa.specs.declared.ended.Ended.{Ended}
-use Rattle.jsa.specs.declared.ended.Ended.TheVariants.{Exit, Usage, BadText, NoMain, Missing, NotShared, Stopped, Unsupported, ReadFault, WriteFault, Limit, Memory}
-use Rattle.jsa.specs.Words.{Request, Run, Dump, Asm, RunRequest, DumpRequest, AsmRequest, path_of}
+use Rattle.jsa.specs.declared.ended.Ended.TheVariants.{Exit, Usage, BadText, NoBoot, NoMain, Missing, NotShared, Stopped, Unsupported, ReadFault, WriteFault, Limit, Memory}
+use Rattle.jsa.specs.Words.{RunRequest, DumpRequest, AsmRequest, path_of}
+use Rattle.jsa.specs.Grammar.{Request, Run, Dump, Asm, HomeRun, MakeHome}
+use Rattle.jsa.proofs.HomeCompletes as home
 use Rattle.jsa.specs.ClassList.{class_list}
 use Rattle.jsa.specs.Stores.{IsAt, Holds, contents_told, reads_told}
 use Rattle.jsa.specs.Runs.{HasProgram, Runs, IsUnsupported, IsTooLarge, FileAnswers, final}
 use Rattle.jsa.specs.Archived as archived
 use Rattle.jsa.specs.Archived.{MakesOf, archive_bytes, ReadsArchive, Opened, ListedTooLarge, TooManyNames, Refuses, InArchive, NotHeld, Dropped, TakesFrom, Taken, ArchiveAnswers}
-use Rattle.jsa.specs.Assembles.{HasText, IsAssembled, IsBadText, TextTooLarge, AsmAnswers, files_of, after_files}
+use Rattle.jsa.specs.Assembles.{HasText, IsAssembled, IsBadText, TextTooLarge, AsmAnswers}
+use Rattle.boot_library.specs.ClassFiles.{files_of, after_files}
 use Rattle.class_asm.specs.Assembly.{assembled}
 use Rattle.class_tree.specs.declared.tree.ClassTree.{ClassTree}
 use Rattle.jsa.specs.Dumps as dumps
@@ -102,6 +105,7 @@ file_completes found steps before after Stopped h r w = record {
   other = λ u. absurd (program_other found h.program h.of u);
   large = λ l. absurd (small_large found h.of.bytes h.of.at h.of.small l);
 }
+file_completes found steps before after NoBoot h r w = absurd h
 file_completes found steps before after NoMain h r w = record {
   runs = λ program of. absurd (none_some found of.bytes h.0 of.at);
   missing = λ n. inl refl;
@@ -281,7 +285,9 @@ archive_completes contents old new r archive before after ended h rf wf = by_end
     by_end (Exit code) (inr (o, t)) rf wf = took (Exit code) o rf wf t
     by_end Stopped (inl h) rf wf = absurd h.0
     by_end Stopped (inr (o, t)) rf wf = took Stopped o rf wf t
+    by_end NoBoot (inl h) rf wf = absurd h.0
     by_end NoMain (inl h) rf wf = absurd h.0
+    by_end NoBoot (inr (o, t)) rf wf = absurd t
     by_end NoMain (inr (o, t)) rf wf = took NoMain o rf wf t
     by_end Unsupported (inl h) rf wf = absurd h.0
     by_end Unsupported (inr (o, t)) rf wf = took Unsupported o rf wf t
@@ -547,6 +553,7 @@ answer_ends contents new faults d before after name Unsupported h rf wf = inl (o
 answer_ends contents new faults d before after name (Limit quantity limit) h rf wf = inl (limit_ends contents d quantity limit h.0)
 answer_ends contents new faults d before after name Usage h rf wf = absurd h
 answer_ends contents new faults d before after name (BadText number) h rf wf = absurd h
+answer_ends contents new faults d before after name NoBoot h rf wf = absurd h
 answer_ends contents new faults d before after name NoMain h rf wf = absurd h
 answer_ends contents new faults d before after name (NotShared refuse) h rf wf = absurd h
 answer_ends contents new faults d before after name Stopped h rf wf = absurd h
@@ -635,6 +642,7 @@ asm_completes contents new faults a (Limit Classes limit) h rf wf = absurd h
 asm_completes contents new faults a (Limit ArchiveSize limit) h rf wf = absurd h
 asm_completes contents new faults a (Limit Loaded limit) h rf wf = absurd h
 asm_completes contents new faults a Usage h rf wf = absurd h
+asm_completes contents new faults a NoBoot h rf wf = absurd h
 asm_completes contents new faults a NoMain h rf wf = absurd h
 asm_completes contents new faults a (NotShared refuse) h rf wf = absurd h
 asm_completes contents new faults a Stopped h rf wf = absurd h
@@ -671,6 +679,8 @@ pub completes : (request : Option Request) (old new : Option Store) (before afte
 completes None old new before after subject ended r0 r1 f0 f1 o0 o1 h reads writes calm_reads calm_files calm_out = h.0
 completes (Some (Run r)) None new before after subject ended r0 r1 f0 f1 o0 o1 h reads writes calm_reads calm_files calm_out = tt
 completes (Some (Dump d)) None new before after subject ended r0 r1 f0 f1 o0 o1 h reads writes calm_reads calm_files calm_out = tt
+completes (Some (HomeRun r)) None new before after subject ended r0 r1 f0 f1 o0 o1 h reads writes calm_reads calm_files calm_out = tt
+completes (Some (MakeHome dir)) None new before after subject ended r0 r1 f0 f1 o0 o1 h reads writes calm_reads calm_files calm_out = tt
 completes (Some (Asm a)) None new before after subject ended r0 r1 f0 f1 o0 o1 h reads writes calm_reads calm_files calm_out = tt
 completes (Some (Asm a)) (Some old) new before after subject ended r0 r1 f0 f1 o0 o1 h reads writes calm_reads calm_files calm_out =
     asm_completes old.contents (contents_told new) (f0, f1) a ended h.0 (no_read_fault r0 r1 ended reads calm_reads) (no_write_fault f0 f1 ended writes.1 calm_files)
@@ -679,3 +689,8 @@ completes (Some (Run r)) (Some old) new before after subject ended r0 r1 f0 f1 o
 completes (Some (Dump d)) (Some old) new before after subject ended r0 r1 f0 f1 o0 o1 h reads writes calm_reads calm_files calm_out =
     dump_completes old.contents (contents_told new) (f0, f1) d before after subject ended h.0 (no_read_fault r0 r1 ended reads calm_reads)
     (λ e. no_dump_fault f0 f1 o0 o1 (subst (CountsDump f0 f1 o0 o1) e writes) calm_files calm_out)
+completes (Some (HomeRun r)) (Some old) new before after subject ended r0 r1 f0 f1 o0 o1 h reads writes calm_reads calm_files calm_out =
+    home.run_completes old new (f0, f1) r before after subject ended h (no_read_fault r0 r1 ended reads calm_reads)
+    (λ e. no_dump_fault f0 f1 o0 o1 (subst (CountsDump f0 f1 o0 o1) e writes) calm_files calm_out)
+completes (Some (MakeHome dir)) (Some old) new before after subject ended r0 r1 f0 f1 o0 o1 h reads writes calm_reads calm_files calm_out =
+    home.home_completes (Some old.contents) (contents_told new) (f0, f1) dir ended h.0 (no_write_fault f0 f1 ended writes.1 calm_files)

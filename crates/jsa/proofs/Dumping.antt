@@ -7,7 +7,7 @@ use Rattle.jsa_files.specs.declared.fault.FilesFault.TheVariants as answers
 use Rattle.jsa_files.specs.Store.{Contents}
 use Rattle.archive_header.specs.Manifests.{MakesSmall}
 use Rattle.jsa.specs.declared.ended.Ended.{Ended}
-use Rattle.jsa.specs.declared.ended.Ended.TheVariants.{Exit, Usage, BadText, NoMain, Missing, NotShared, Stopped, Unsupported, ReadFault, WriteFault, Limit, Memory}
+use Rattle.jsa.specs.declared.ended.Ended.TheVariants.{Exit, Usage, BadText, NoBoot, NoMain, Missing, NotShared, Stopped, Unsupported, ReadFault, WriteFault, Limit, Memory}
 use Rattle.jsa.specs.Words.{DumpRequest}
 use Rattle.jsa.specs.Faults.{end_of}
 use Rattle.jsa.specs.Archived.{lists_of, MakesOf}
@@ -55,6 +55,7 @@ stops old new faults d before p names place ended is s e =
     by_cases (Exit code) f = absurd f.said
     by_cases Usage f = absurd f.said
     by_cases (BadText number) f = absurd f.said
+    by_cases NoBoot f = absurd f.said
     by_cases NoMain f = absurd f.said
     by_cases Missing f = absurd f.said
     by_cases (NotShared refuse) f = absurd f.said
@@ -74,6 +75,7 @@ no_list old new faults d before Memory h e = inl (e, refl)
 no_list old new faults d before (Exit code) h e = absurd h
 no_list old new faults d before Usage h e = absurd h
 no_list old new faults d before (BadText number) h e = absurd h
+no_list old new faults d before NoBoot h e = absurd h
 no_list old new faults d before NoMain h e = absurd h
 no_list old new faults d before (NotShared refuse) h e = absurd h
 no_list old new faults d before Stopped h e = absurd h
@@ -91,6 +93,7 @@ dump_memory old new faults d before after subject WriteFault h = inr h
 dump_memory old new faults d before after subject Memory h = h
 dump_memory old new faults d before after subject Usage h = absurd h
 dump_memory old new faults d before after subject (BadText number) h = absurd h
+dump_memory old new faults d before after subject NoBoot h = absurd h
 dump_memory old new faults d before after subject NoMain h = absurd h
 dump_memory old new faults d before after subject (NotShared refuse) h = absurd h
 dump_memory old new faults d before after subject Stopped h = absurd h
@@ -99,6 +102,7 @@ pub counts_memory : (files files' out out' : ℕ) (ended : Ended) → CountsDump
 counts_memory files files' out out' (Exit code) h = (omega (arith, h.0), omega (arith, h.1))
 counts_memory files files' out out' Usage h = (omega (arith, h.0), omega (arith, h.1))
 counts_memory files files' out out' (BadText number) h = (omega (arith, h.0), omega (arith, h.1))
+counts_memory files files' out out' NoBoot h = (omega (arith, h.0), omega (arith, h.1))
 counts_memory files files' out out' NoMain h = (omega (arith, h.0), omega (arith, h.1))
 counts_memory files files' out out' Missing h = (omega (arith, h.0), omega (arith, h.1))
 counts_memory files files' out out' (NotShared refuse) h = (omega (arith, h.0), omega (arith, h.1))
@@ -165,6 +169,7 @@ wrote old new faults d before after subject x Memory (inl h) = inl h
 wrote old new faults d before after subject x Memory (inr h) = inr (x, inr h)
 wrote old new faults d before after subject x Usage h = absurd h
 wrote old new faults d before after subject x (BadText number) h = absurd h
+wrote old new faults d before after subject x NoBoot h = absurd h
 wrote old new faults d before after subject x NoMain h = absurd h
 wrote old new faults d before after subject x Missing h = absurd h
 wrote old new faults d before after subject x (NotShared refuse) h = absurd h
@@ -206,6 +211,7 @@ not_read before now (Limit quantity limit) h e = e
 not_read before now Memory h e = omega (arith, e)
 not_read before now Usage h e = absurd h
 not_read before now (BadText number) h e = absurd h
+not_read before now NoBoot h e = absurd h
 not_read before now NoMain h e = absurd h
 not_read before now Missing h e = absurd h
 not_read before now (NotShared refuse) h e = absurd h
@@ -258,6 +264,7 @@ leaves old new faults d before after subject Memory (inl h) = others_same d.arch
 leaves old new faults d before after subject Memory (inr h) = leaves_begun old new faults d before after h
 leaves old new faults d before after subject Usage h = absurd h
 leaves old new faults d before after subject (BadText number) h = absurd h
+leaves old new faults d before after subject NoBoot h = absurd h
 leaves old new faults d before after subject NoMain h = absurd h
 leaves old new faults d before after subject (NotShared refuse) h = absurd h
 leaves old new faults d before after subject Stopped h = absurd h

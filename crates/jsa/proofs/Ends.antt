@@ -12,7 +12,7 @@ use Rattle.jsa_files.proofs.Taken.{front_of_whole}
 use Rattle.classfile_reader.specs.declared.program.Program.{Program}
 use Rattle.classfile_reader.specs.FirstForm.{IsFirstForm}
 use Rattle.jsa.specs.declared.ended.Ended.{Ended}
-use Rattle.jsa.specs.declared.ended.Ended.TheVariants.{Exit, Usage, BadText, NoMain, Missing, NotShared, Stopped, Unsupported, ReadFault, WriteFault, Limit, Memory}
+use Rattle.jsa.specs.declared.ended.Ended.TheVariants.{Exit, Usage, BadText, NoBoot, NoMain, Missing, NotShared, Stopped, Unsupported, ReadFault, WriteFault, Limit, Memory}
 use Rattle.vm_run.specs.declared.machine.End.{End}
 use Rattle.vm_run.specs.declared.machine.End.TheVariants as ends
 use Rattle.jsa.specs.Stores.{IsAt, contents_told}
@@ -26,6 +26,7 @@ pub file_memory : (found : Option (List ℕ)) (steps : ℕ) (before after : Opti
 file_memory found steps before after (Exit code) h = inr (begins found steps (Some ends.Exit) before after h.1)
 file_memory found steps before after Usage h = absurd h
 file_memory found steps before after (BadText number) h = absurd h
+file_memory found steps before after NoBoot h = absurd h
 file_memory found steps before after NoMain h = inl h.1
 file_memory found steps before after Stopped h = inr (begins found steps None before after h)
 file_memory found steps before after Unsupported h = inl h.1
@@ -48,6 +49,7 @@ pub reads_memory : (old new : Option (List (List ℕ))) (path : List ℕ) (ended
 reads_memory old new path (Exit code) h = inr h
 reads_memory old new path Usage h = inl h
 reads_memory old new path (BadText number) h = inr h
+reads_memory old new path NoBoot h = inl h
 reads_memory old new path NoMain h = inl h
 reads_memory old new path Stopped h = inr h
 reads_memory old new path Missing h = inl h
@@ -62,6 +64,7 @@ pub counts_reads_memory : (before now : ℕ) (ended : Ended) → CountsReads bef
 counts_reads_memory before now (Exit code) h = omega arith
 counts_reads_memory before now Usage h = omega arith
 counts_reads_memory before now (BadText number) h = omega arith
+counts_reads_memory before now NoBoot h = omega arith
 counts_reads_memory before now NoMain h = omega arith
 counts_reads_memory before now Missing h = omega arith
 counts_reads_memory before now (NotShared refuse) h = omega arith
@@ -76,6 +79,7 @@ pub counts_writes_memory : (before now : ℕ) (ended : Ended) → CountsWrites b
 counts_writes_memory before now (Exit code) h = omega arith
 counts_writes_memory before now Usage h = omega arith
 counts_writes_memory before now (BadText number) h = omega arith
+counts_writes_memory before now NoBoot h = omega arith
 counts_writes_memory before now NoMain h = omega arith
 counts_writes_memory before now Missing h = omega arith
 counts_writes_memory before now (NotShared refuse) h = omega arith
@@ -91,6 +95,7 @@ pub file_of_program : (bytes : List ℕ) (program : Program) (steps : ℕ) (befo
 file_of_program bytes program steps before after (Exit code) small form h = (h.0, record { program = program; of = record { bytes = bytes; at = refl; small = small; form = form }; ends = h.1; out = h.2 })
 file_of_program bytes program steps before after Usage small form h = absurd h
 file_of_program bytes program steps before after (BadText number) small form h = absurd h
+file_of_program bytes program steps before after NoBoot small form h = absurd h
 file_of_program bytes program steps before after NoMain small form h = absurd h
 file_of_program bytes program steps before after Missing small form h = absurd h
 file_of_program bytes program steps before after (NotShared refuse) small form h = absurd h

@@ -10,7 +10,7 @@ use Rattle.jsa_names.specs.Paths as names
 use Rattle.classfile_reader.specs.FirstForm.{IsClassNamed}
 use Rattle.plain_classes.specs.declared.class.PlainClass.{PlainClass}
 use Rattle.jsa.specs.declared.ended.Ended.{Ended}
-use Rattle.jsa.specs.declared.ended.Ended.TheVariants.{Exit, Usage, BadText, NoMain, Missing, NotShared, Stopped, Unsupported, ReadFault, WriteFault, Limit, Memory}
+use Rattle.jsa.specs.declared.ended.Ended.TheVariants.{Exit, Usage, BadText, NoBoot, NoMain, Missing, NotShared, Stopped, Unsupported, ReadFault, WriteFault, Limit, Memory}
 use Rattle.jsa.specs.Words.{DumpRequest}
 use Rattle.jsa.specs.Stores.{IsAt, contents_told}
 use Rattle.jsa.specs.Faults.{end_of}
@@ -61,6 +61,7 @@ in_file contents name path bytes (Err Memory) at small h = λ folder e. tt
 in_file contents name path bytes (Err (Exit code)) at small h = absurd h
 in_file contents name path bytes (Err Usage) at small h = absurd h
 in_file contents name path bytes (Err (BadText number)) at small h = absurd h
+in_file contents name path bytes (Err NoBoot) at small h = absurd h
 in_file contents name path bytes (Err NoMain) at small h = absurd h
 in_file contents name path bytes (Err Missing) at small h = absurd h
 in_file contents name path bytes (Err (NotShared refuse)) at small h = absurd h

@@ -7,7 +7,7 @@ use Rattle.std.proofs.lemmas.List.{append-nil, append_assoc}
 use Rattle.jsa_files.specs.declared.fault.FilesFault.{FilesFault}
 use Rattle.jsa_files.specs.Store.{Store, ReadAnswer, store_after_read, with_file}
 use Rattle.jsa.specs.declared.ended.Ended.{Ended}
-use Rattle.jsa.specs.declared.ended.Ended.TheVariants.{Exit, Usage, BadText, NoMain, Missing, NotShared, Stopped, Unsupported, ReadFault, WriteFault, Limit, Memory}
+use Rattle.jsa.specs.declared.ended.Ended.TheVariants.{Exit, Usage, BadText, NoBoot, NoMain, Missing, NotShared, Stopped, Unsupported, ReadFault, WriteFault, Limit, Memory}
 use Rattle.jsa.specs.Stores.{contents_told, reads_told, Holds, ReadsBy, ReadsFront}
 use Rattle.jsa.specs.Runs.{ReadsPath, ReadsClass}
 use Rattle.jsa.specs.Archived.{archive_reads}
@@ -57,6 +57,7 @@ pub path_class : (old new : Option (List (List ℕ))) (path : List ℕ) (ended :
 path_class old new path (Exit code) h = h
 path_class old new path Usage h = reads_nothing old new h
 path_class old new path (BadText number) h = h
+path_class old new path NoBoot h = reads_nothing old new h
 path_class old new path NoMain h = reads_nothing old new h
 path_class old new path Missing h = reads_nothing old new h
 path_class old new path (NotShared refuse) h = reads_nothing old new h
@@ -72,6 +73,7 @@ pub no_class : (old new : Option (List (List ℕ))) (ended : Ended) → new ≡ 
 no_class old new (Exit code) e = reads_nothing old new e
 no_class old new Usage e = reads_nothing old new e
 no_class old new (BadText number) e = reads_nothing old new e
+no_class old new NoBoot e = reads_nothing old new e
 no_class old new NoMain e = reads_nothing old new e
 no_class old new Missing e = reads_nothing old new e
 no_class old new (NotShared refuse) e = reads_nothing old new e
@@ -90,6 +92,7 @@ pub behind_first : (a b c : Option (List (List ℕ))) (first paths : List (List 
 behind_first a b c first paths (Exit code) h k = reads_then a b c first paths h k
 behind_first a b c first paths Usage h k = first_nothing a b c first h k
 behind_first a b c first paths (BadText number) h k = reads_then a b c first paths h k
+behind_first a b c first paths NoBoot h k = first_nothing a b c first h k
 behind_first a b c first paths NoMain h k = first_nothing a b c first h k
 behind_first a b c first paths Missing h k = first_nothing a b c first h k
 behind_first a b c first paths (NotShared refuse) h k = first_nothing a b c first h k
@@ -105,6 +108,7 @@ pub class_memory : (old new : Option (List (List ℕ))) (first paths : List (Lis
 class_memory old new first paths (Exit code) h = inr h
 class_memory old new first paths Usage h = inl h
 class_memory old new first paths (BadText number) h = inr h
+class_memory old new first paths NoBoot h = inl h
 class_memory old new first paths NoMain h = inl h
 class_memory old new first paths Missing h = inl h
 class_memory old new first paths (NotShared refuse) h = inl h

@@ -31,8 +31,9 @@ use Rattle.plain_classes.proofs.Archives.{one_is}
 use Rattle.archive_mapper.specs.Mapping.{Maps}
 use Rattle.archive_mapper.proofs.Stages.{as_one}
 use Rattle.jsa.specs.declared.ended.Ended.{Ended}
-use Rattle.jsa.specs.declared.ended.Ended.TheVariants.{Exit, Usage, BadText, NoMain, Missing, NotShared, Stopped, Unsupported, ReadFault, WriteFault, Limit, Memory}
-use Rattle.jsa.specs.Words.{internal_name, request_of, Request, Run, Dump, Asm, RunRequest, path_of}
+use Rattle.jsa.specs.declared.ended.Ended.TheVariants.{Exit, Usage, BadText, NoBoot, NoMain, Missing, NotShared, Stopped, Unsupported, ReadFault, WriteFault, Limit, Memory}
+use Rattle.jsa.specs.Words.{internal_name, RunRequest, path_of}
+use Rattle.jsa.specs.Grammar.{request_of, Request, Run, Dump, Asm, HomeRun, MakeHome}
 use Rattle.jsa.specs.Stores.{reads_told}
 use Rattle.jsa.specs.Runs.{FileAnswers}
 use Rattle.jsa.specs.Archived.{lists_of, archive_bytes, Opened, OpensNot, TakesFrom, Taken, MappedAnswers, ArchiveAnswers}
@@ -291,6 +292,7 @@ module _ (now : Contents) (r : RunRequest) (word archive : List ℕ) (w : Writte
   mapped_keeps old new first bytes current before after (Exit code) d m = taken_keeps old new first bytes current before after (Exit code) d m
   mapped_keeps old new first bytes current before after Usage d m = m
   mapped_keeps old new first bytes current before after (BadText number) d m = m
+  mapped_keeps old new first bytes current before after NoBoot d m = absurd m
   mapped_keeps old new first bytes current before after NoMain d m = taken_keeps old new first bytes current before after NoMain d m
   mapped_keeps old new first bytes current before after Missing d m = m
   mapped_keeps old new first bytes current before after (NotShared refuse) d m = changed now r archive w bytes current d refuse m.0.on m.0.refused.known m.0.refused.why
@@ -307,6 +309,7 @@ module _ (now : Contents) (r : RunRequest) (word archive : List ℕ) (w : Writte
   opens_keeps old new before after (Exit code) h e = absurd h
   opens_keeps old new before after Usage h e = h
   opens_keeps old new before after (BadText number) h e = h
+  opens_keeps old new before after NoBoot h e = absurd h
   opens_keeps old new before after NoMain h e = absurd h
   opens_keeps old new before after Missing h e = h
   opens_keeps old new before after (NotShared refuse) h e = absurd h
@@ -333,6 +336,8 @@ headline words None old new faults before after subject ended e h = tt
 headline words (Some request) None new faults before after subject ended e h = tt
 headline words (Some (Dump d)) (Some store) new faults before after subject ended e h = tt
 headline words (Some (Asm a)) (Some store) new faults before after subject ended e h = tt
+headline words (Some (HomeRun r)) (Some store) new faults before after subject ended e h = tt
+headline words (Some (MakeHome dir)) (Some store) new faults before after subject ended e h = tt
 headline words (Some (Run r)) (Some store) new faults before after subject ended e h =
     let name = request_name words r e in
     archive_keeps r.archive store new r name.0 before after ended name.1 h.0

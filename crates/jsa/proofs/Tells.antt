@@ -5,7 +5,7 @@ use Rattle.jsa.specs.Command.{Answered, CouldAnswer, TakesSomeFront, CountsReads
 use Rattle.jsa.specs.Completes.{IsOrMemory}
 use Rattle.jsa.specs.Lines.{TakesFront, TakesLine, CountsErr, line_of}
 use Rattle.jsa.specs.declared.ended.Ended.{Ended}
-use Rattle.jsa.specs.declared.ended.Ended.TheVariants.{Exit, Usage, BadText, NoMain, Missing, NotShared, Stopped, Unsupported, ReadFault, WriteFault, Limit, Memory}
+use Rattle.jsa.specs.declared.ended.Ended.TheVariants.{Exit, Usage, BadText, NoBoot, NoMain, Missing, NotShared, Stopped, Unsupported, ReadFault, WriteFault, Limit, Memory}
 
 -- The line of want of memory tells neither a name nor a limit.
 pub memory_front : (a b : Option (List ℕ)) (ended : Ended) (subject : List ℕ) (steps : ℕ) → GrowsByFront a b (line_of Memory [] 0) → TakesFront a b ended subject steps
@@ -42,6 +42,7 @@ counts_other : (before now : ℕ) (ended : Ended) → ((code : ℕ) → ended �
 counts_other before now (Exit code) other h = absurd (other code refl)
 counts_other before now Usage other h = h
 counts_other before now (BadText number) other h = h
+counts_other before now NoBoot other h = h
 counts_other before now NoMain other h = h
 counts_other before now Missing other h = h
 counts_other before now (NotShared refuse) other h = h

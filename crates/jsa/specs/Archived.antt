@@ -13,7 +13,7 @@ use Rattle.plain_classes.specs.declared.class.PlainClass.{PlainClass}
 use Rattle.plain_classes.specs.Records.{class_in}
 use Rattle.archive_mapper.specs.Mapping.{Maps}
 use Rattle.jsa.specs.declared.ended.Ended.{Ended}
-use Rattle.jsa.specs.declared.ended.Ended.TheVariants.{Exit, Usage, BadText, NoMain, Missing, NotShared, Stopped, Unsupported, ReadFault, WriteFault, Limit, Memory}
+use Rattle.jsa.specs.declared.ended.Ended.TheVariants.{Exit, Usage, BadText, NoBoot, NoMain, Missing, NotShared, Stopped, Unsupported, ReadFault, WriteFault, Limit, Memory}
 use Rattle.jsa.specs.Words.{RunRequest, path_of}
 use Rattle.jsa.specs.Stores.{IsAt, ReadsBy, ReadsFront}
 use Rattle.jsa.specs.Runs.{FileAnswers, ReadsClass, IsTooLarge}
@@ -84,6 +84,7 @@ OpensNot contents old new folder archive Memory = ReadsFront old new (archive �
 OpensNot contents old new folder archive (Exit code) = ⊥
 OpensNot contents old new folder archive Usage = ⊥
 OpensNot contents old new folder archive (BadText number) = ⊥
+OpensNot contents old new folder archive NoBoot = ⊥
 OpensNot contents old new folder archive NoMain = ⊥
 OpensNot contents old new folder archive Missing = ⊥
 OpensNot contents old new folder archive (NotShared refuse) = ⊥
@@ -141,6 +142,7 @@ abbrev pub MappedAnswers : Option Contents → Option (List (List ℕ)) → Opti
 MappedAnswers contents old new first r bytes now before after (NotShared refuse) = IsRefused old new first r bytes now refuse × (after ≡ before)
 MappedAnswers contents old new first r bytes now before after (Exit code) = Taken contents old new first r bytes now before after (Exit code)
 MappedAnswers contents old new first r bytes now before after Stopped = Taken contents old new first r bytes now before after Stopped
+MappedAnswers contents old new first r bytes now before after NoBoot = ⊥
 MappedAnswers contents old new first r bytes now before after NoMain = Taken contents old new first r bytes now before after NoMain
 MappedAnswers contents old new first r bytes now before after Unsupported = Taken contents old new first r bytes now before after Unsupported
 MappedAnswers contents old new first r bytes now before after WriteFault = Taken contents old new first r bytes now before after WriteFault

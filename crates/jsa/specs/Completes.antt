@@ -1,5 +1,5 @@
 -- What is answered where nothing fails: each cause has its answer, unless memory runs out.
-use Rattle.std.specs.Prelude.{◌≡◌, ◌≤◌, ◌⊎◌, ℕ, List, length, true, Option, Some, None, ⊤}
+use Rattle.std.specs.Prelude.{◌≡◌, ◌≤◌, ◌⊎◌, ℕ, List, [], length, true, Option, Some, None, Err, ⊤}
 use Rattle.std.specs.FinMap.{get}
 use Rattle.jsa_base.specs.declared.quantity.Quantity.{Quantity}
 use Rattle.jsa_base.specs.declared.quantity.Quantity.TheVariants.{FileSize, Names}
@@ -12,10 +12,18 @@ use Rattle.classfile_reader.specs.declared.program.Program.{Program}
 use Rattle.vm_run.specs.declared.machine.End.{End}
 use Rattle.vm_run.specs.declared.machine.End.TheVariants as ends
 use Rattle.jsa.specs.declared.ended.Ended.{Ended}
-use Rattle.jsa.specs.declared.ended.Ended.TheVariants.{Exit, Usage, BadText, NoMain, Missing, NotShared, Stopped, Unsupported, Limit, Memory}
-use Rattle.jsa.specs.Words.{Request, Run, Dump, Asm, RunRequest, DumpRequest, AsmRequest, path_of}
+use Rattle.jsa.specs.declared.ended.Ended.TheVariants.{Exit, Usage, BadText, NoBoot, NoMain, Missing, NotShared, Stopped, Unsupported, Limit, Memory}
+use Rattle.jsa.specs.Words.{RunRequest, DumpRequest, AsmRequest, path_of}
+use Rattle.jsa.specs.Grammar.{Request, Run, Dump, Asm, HomeRun, MakeHome}
 use Rattle.jsa.specs.Stores.{IsAt, Holds, contents_told}
 use Rattle.jsa.specs.Runs.{HasProgram, IsUnsupported, IsTooLarge, final}
+use Rattle.class_record.specs.Calls.{passed}
+use Rattle.class_asm.specs.Assembly.{assembled}
+use Rattle.vm_start.specs.Starting as starts
+use Rattle.home_run.specs.Requests.{HomeRequest, run_files, run_world, started}
+use Rattle.home_run.specs.Answers as home
+use Rattle.boot_library.specs.ClassFiles.{after_files}
+use Rattle.boot_library.specs.Home.{IsHome, files_asked, boot_text}
 use Rattle.jsa.specs.Archived as archived
 use Rattle.jsa.specs.Dumps as dumps
 use Rattle.jsa.specs.Assembles as asm
@@ -59,7 +67,26 @@ pub record AsmCompletes (old new : Option Contents) (a : AsmRequest) (ended : En
   pub missing : IsAt old a.text None → IsOrMemory ended Missing
   pub large : asm.TextTooLarge old a → IsOrMemory ended (Limit FileSize MAX_FILE)
   pub bad : (line : ℕ) → asm.IsBadText old a line → IsOrMemory ended (BadText line)
-  pub written : (x : asm.IsAssembled old a) → ((ended ≡ Exit 0) × (new ≡ asm.after_files old (asm.files_asked x))) ⊎ (ended ≡ Memory)
+  pub written : (x : asm.IsAssembled old a) → ((ended ≡ Exit 0) × (new ≡ after_files old (asm.files_asked x))) ⊎ (ended ≡ Memory)
+
+-- The start of a run over a home ends so, and no limit is passed in its course.
+pub record StartsBy (contents : Contents) (r : HomeRequest) (end : starts.StartEnd) : Type 0 where
+  pub ends : (started contents r).end ≡ end
+  pub within : passed (run_world contents r) [] (started contents r).events ≡ None
+
+-- for a run over a home
+pub record HomeRunCompletes (contents : Contents) (r : HomeRequest) (before after : Option (List ℕ)) (ended : Ended) : Type 0 where
+  pub no_boot : (number : ℕ) → StartsBy contents r (starts.NoBoot number) → IsOrMemory ended NoBoot
+  pub no_main : StartsBy contents r starts.NoMain → IsOrMemory ended NoMain
+  pub other : StartsBy contents r starts.Ready → home.HasNoProgram (run_files contents r) r.name → IsOrMemory ended Unsupported
+  pub runs : StartsBy contents r starts.Ready → (program : Program) → home.HasProgram (run_files contents r) r.name program
+      → (EndsAs (final program r.steps).end ended × GrowsBy before after (final program r.steps).out) ⊎ (ended ≡ Memory)
+  pub limit : (quantity : Quantity) (limit : ℕ) → passed (run_world contents r) [] (started contents r).events ≡ Some (quantity, limit) → IsOrMemory ended (Limit quantity limit)
+
+-- for the making of a home
+pub record MakeHomeCompletes (old new : Option Contents) (dir : List ℕ) (ended : Ended) : Type 0 where
+  pub bad : (line : ℕ) → assembled boot_text ≡ Err line → IsOrMemory ended (BadText line)
+  pub written : (x : IsHome dir boot_text) → ((ended ≡ Exit 0) × (new ≡ after_files old (files_asked x))) ⊎ (ended ≡ Memory)
 
 abbrev pub RunCompletesBy : Option (List ℕ) → Contents → RunRequest → Option (List ℕ) → Option (List ℕ) → Ended → Type 0
 RunCompletesBy None contents r before after ended = FileCompletes (get contents (path_of r)) r.steps before after ended
@@ -72,3 +99,5 @@ RequestCompletes (Some request) None new before after ended = ⊤
 RequestCompletes (Some (Run r)) (Some old) new before after ended = RunCompletesBy r.archive old.contents r before after ended
 RequestCompletes (Some (Dump d)) (Some old) new before after ended = DumpCompletes (Some old.contents) (contents_told new) d ended
 RequestCompletes (Some (Asm a)) (Some old) new before after ended = AsmCompletes (Some old.contents) (contents_told new) a ended
+RequestCompletes (Some (HomeRun r)) (Some old) new before after ended = HomeRunCompletes old.contents r before after ended
+RequestCompletes (Some (MakeHome dir)) (Some old) new before after ended = MakeHomeCompletes (Some old.contents) (contents_told new) dir ended

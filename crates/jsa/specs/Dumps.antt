@@ -13,7 +13,7 @@ use Rattle.classfile_reader.specs.FirstForm.{IsClassNamed}
 use Rattle.plain_classes.specs.declared.class.PlainClass.{PlainClass}
 use Rattle.plain_classes.specs.Archives.{IsArchive, archive_text}
 use Rattle.jsa.specs.declared.ended.Ended.{Ended}
-use Rattle.jsa.specs.declared.ended.Ended.TheVariants.{Exit, Usage, BadText, NoMain, Missing, NotShared, Stopped, Unsupported, ReadFault, WriteFault, Limit, Memory}
+use Rattle.jsa.specs.declared.ended.Ended.TheVariants.{Exit, Usage, BadText, NoBoot, NoMain, Missing, NotShared, Stopped, Unsupported, ReadFault, WriteFault, Limit, Memory}
 use Rattle.jsa.specs.Words.{DumpRequest}
 use Rattle.jsa.specs.ClassList.{class_list}
 use Rattle.jsa.specs.Stores.{IsAt, Holds, HoldsFront}
@@ -164,6 +164,7 @@ DumpAnswers old new faults d before after name Unsupported = IsUnsupportedName o
 DumpAnswers old new faults d before after name (Limit quantity limit) = PassesLimit old d (Limit quantity limit) × (new ≡ old) × (after ≡ before)
 DumpAnswers old new faults d before after name Usage = ⊥
 DumpAnswers old new faults d before after name (BadText number) = ⊥
+DumpAnswers old new faults d before after name NoBoot = ⊥
 DumpAnswers old new faults d before after name NoMain = ⊥
 DumpAnswers old new faults d before after name (NotShared refuse) = ⊥
 DumpAnswers old new faults d before after name Stopped = ⊥

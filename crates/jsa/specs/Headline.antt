@@ -10,8 +10,9 @@ use Rattle.archive_header.specs.declared.refuse.Refuse.TheVariants as refusals
 use Rattle.archive_header.specs.Folders.{IsFirstChanged}
 use Rattle.archive_header.specs.Manifests.{path_in, manifest_now}
 use Rattle.jsa.specs.declared.ended.Ended.{Ended}
-use Rattle.jsa.specs.declared.ended.Ended.TheVariants.{Exit, Usage, BadText, NoMain, Missing, NotShared, Stopped, Unsupported, ReadFault, WriteFault, Limit, Memory}
-use Rattle.jsa.specs.Words.{Request, Run, Dump, Asm, RunRequest, DumpRequest, path_of}
+use Rattle.jsa.specs.declared.ended.Ended.TheVariants.{Exit, Usage, BadText, NoBoot, NoMain, Missing, NotShared, Stopped, Unsupported, ReadFault, WriteFault, Limit, Memory}
+use Rattle.jsa.specs.Words.{RunRequest, DumpRequest, path_of}
+use Rattle.jsa.specs.Grammar.{Request, Run, Dump, Asm, HomeRun, MakeHome}
 use Rattle.jsa.specs.Runs.{FileAnswers}
 use Rattle.jsa.specs.Archived.{lists_of}
 use Rattle.jsa.specs.Dumps.{Dumped}
@@ -56,6 +57,7 @@ AsFromFile now r w before after (Limit quantity limit) = ⊤
 AsFromFile now r w before after (Exit code) = FileAnswers (get now (path_of r)) r.steps before after (Exit code)
 AsFromFile now r w before after Usage = ⊥
 AsFromFile now r w before after (BadText number) = ⊥
+AsFromFile now r w before after NoBoot = ⊥
 AsFromFile now r w before after NoMain = FileAnswers (get now (path_of r)) r.steps before after NoMain
 AsFromFile now r w before after Missing = ⊥
 AsFromFile now r w before after Stopped = FileAnswers (get now (path_of r)) r.steps before after Stopped
@@ -75,4 +77,6 @@ RunsAsFromFile None store before after ended = ⊤
 RunsAsFromFile (Some request) None before after ended = ⊤
 RunsAsFromFile (Some (Dump d)) (Some store) before after ended = ⊤
 RunsAsFromFile (Some (Asm a)) (Some store) before after ended = ⊤
+RunsAsFromFile (Some (HomeRun r)) (Some store) before after ended = ⊤
+RunsAsFromFile (Some (MakeHome dir)) (Some store) before after ended = ⊤
 RunsAsFromFile (Some (Run r)) (Some store) before after ended = ArchiveKeeps r.archive store.contents r before after ended

@@ -5,7 +5,7 @@ use Rattle.jsa_files.specs.Sinks.{GrowsBy, GrowsByFront}
 use Rattle.archive_header.specs.declared.refuse.Refuse.{Refuse}
 use Rattle.archive_header.specs.declared.refuse.Refuse.TheVariants as refusals
 use Rattle.jsa.specs.declared.ended.Ended.{Ended}
-use Rattle.jsa.specs.declared.ended.Ended.TheVariants.{Exit, Usage, BadText, NoMain, Missing, NotShared, Stopped, Unsupported, ReadFault, WriteFault, Limit, Memory}
+use Rattle.jsa.specs.declared.ended.Ended.TheVariants.{Exit, Usage, BadText, NoBoot, NoMain, Missing, NotShared, Stopped, Unsupported, ReadFault, WriteFault, Limit, Memory}
 use Rattle.jsa_base.specs.declared.quantity.Quantity.{Quantity}
 use Rattle.jsa_base.specs.declared.quantity.Quantity.TheVariants.{FileSize, Names, Classes, ArchiveSize, Loaded}
 
@@ -38,6 +38,7 @@ unfoldable pub line_of : Ended → List ℕ → ℕ → List ℕ
 line_of (Exit code) subject steps = []
 line_of Usage subject steps = codes "usage\n"
 line_of (BadText number) subject steps = codes "line " ++ decimal number ++ codes "\n"
+line_of NoBoot subject steps = codes "no boot class " ++ (subject ++ codes "\n")
 line_of NoMain subject steps = codes "no main in " ++ (subject ++ codes "\n")
 line_of Missing subject steps = codes "missing " ++ (subject ++ codes "\n")
 line_of (NotShared refuse) subject steps = codes "not shared " ++ (subject ++ cause_end refuse)
@@ -64,6 +65,7 @@ abbrev pub CountsErr : ℕ → ℕ → Ended → Type 0
 CountsErr before now (Exit code) = now ≡ before
 CountsErr before now Usage = before ≤ now
 CountsErr before now (BadText number) = before ≤ now
+CountsErr before now NoBoot = before ≤ now
 CountsErr before now NoMain = before ≤ now
 CountsErr before now Missing = before ≤ now
 CountsErr before now (NotShared refuse) = before ≤ now

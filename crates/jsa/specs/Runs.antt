@@ -11,7 +11,7 @@ use Rattle.vm_run.specs.declared.machine.End.{End}
 use Rattle.vm_run.specs.declared.machine.End.TheVariants as ends
 use Rattle.vm_run.specs.Machine.{State, state_after, start}
 use Rattle.jsa.specs.declared.ended.Ended.{Ended}
-use Rattle.jsa.specs.declared.ended.Ended.TheVariants.{Exit, Usage, BadText, NoMain, Missing, NotShared, Stopped, Unsupported, ReadFault, WriteFault, Limit, Memory}
+use Rattle.jsa.specs.declared.ended.Ended.TheVariants.{Exit, Usage, BadText, NoBoot, NoMain, Missing, NotShared, Stopped, Unsupported, ReadFault, WriteFault, Limit, Memory}
 use Rattle.jsa.specs.Stores.{ReadsBy}
 
 -- The file is no larger than the limit and a class of the first form, with this program.
@@ -56,6 +56,7 @@ pub record IsTooLarge (found : Option (List ℕ)) : Type 0 where
 abbrev pub FileAnswers : Option (List ℕ) → ℕ → Option (List ℕ) → Option (List ℕ) → Ended → Type 0
 FileAnswers found steps before after (Exit code) = (code ≡ 0) × Runs found steps (Some ends.Exit) before after
 FileAnswers found steps before after Stopped = Runs found steps None before after
+FileAnswers found steps before after NoBoot = ⊥
 FileAnswers found steps before after NoMain = (found ≡ None) × (after ≡ before)
 FileAnswers found steps before after Unsupported = IsUnsupported found × (after ≡ before)
 FileAnswers found steps before after (Limit FileSize limit) = (limit ≡ MAX_FILE) × IsTooLarge found × (after ≡ before)
@@ -84,6 +85,7 @@ ProgramAnswers program steps before after WriteFault = GrowsByFront before after
 ProgramAnswers program steps before after Memory = GrowsByFront before after (final program steps).out
 ProgramAnswers program steps before after Usage = ⊥
 ProgramAnswers program steps before after (BadText number) = ⊥
+ProgramAnswers program steps before after NoBoot = ⊥
 ProgramAnswers program steps before after NoMain = ⊥
 ProgramAnswers program steps before after Missing = ⊥
 ProgramAnswers program steps before after (NotShared refuse) = ⊥
@@ -100,6 +102,7 @@ ReadsClass old new first paths Unsupported = ReadsBy old new (first ++ paths)
 ReadsClass old new first paths WriteFault = ReadsBy old new (first ++ paths)
 ReadsClass old new first paths Usage = ReadsBy old new first
 ReadsClass old new first paths (BadText number) = ReadsBy old new (first ++ paths)
+ReadsClass old new first paths NoBoot = ReadsBy old new first
 ReadsClass old new first paths NoMain = ReadsBy old new first
 ReadsClass old new first paths Missing = ReadsBy old new first
 ReadsClass old new first paths (NotShared refuse) = ReadsBy old new first
@@ -122,6 +125,7 @@ ReadsPath old new path Unsupported = ReadsOnce path old new
 ReadsPath old new path WriteFault = ReadsOnce path old new
 ReadsPath old new path Usage = ReadsNothing old new
 ReadsPath old new path (BadText number) = ReadsOnce path old new
+ReadsPath old new path NoBoot = ReadsNothing old new
 ReadsPath old new path NoMain = ReadsNothing old new
 ReadsPath old new path Missing = ReadsNothing old new
 ReadsPath old new path (NotShared refuse) = ReadsNothing old new

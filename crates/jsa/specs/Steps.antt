@@ -11,7 +11,7 @@ use Rattle.jsa_names.specs.Paths as names
 use Rattle.classfile_reader.specs.FirstForm.{IsClassNamed}
 use Rattle.plain_classes.specs.Records.{class_in}
 use Rattle.jsa.specs.declared.ended.Ended.{Ended}
-use Rattle.jsa.specs.declared.ended.Ended.TheVariants.{Exit, Usage, BadText, NoMain, Missing, NotShared, Stopped, Unsupported, ReadFault, WriteFault, Limit, Memory}
+use Rattle.jsa.specs.declared.ended.Ended.TheVariants.{Exit, Usage, BadText, NoBoot, NoMain, Missing, NotShared, Stopped, Unsupported, ReadFault, WriteFault, Limit, Memory}
 use Rattle.jsa.specs.declared.archive_run.ArchiveAndManifest.{ArchiveAndManifest}
 use Rattle.jsa.specs.declared.gathering.DumpEnd.{DumpEnd}
 use Rattle.jsa.specs.declared.assembling.ClassFault.{ClassFault}
@@ -20,7 +20,7 @@ use Rattle.jsa.specs.Words.{DumpRequest}
 use Rattle.jsa.specs.ClassList.{class_list}
 use Rattle.jsa.specs.Stores.{IsAt, Holds, HoldsFront, ReadsBy}
 use Rattle.jsa.specs.Archived.{Opened, OpensNot, archive_bytes, archive_reads}
-use Rattle.jsa.specs.Assembles.{ClassFile, after_files, FailsAt, WritesSome}
+use Rattle.boot_library.specs.ClassFiles.{File, after_files, FailsAt, WritesSome}
 use Rattle.jsa.specs.Dumps.{Listed, ListTooLarge, HasClass, HasClasses, HasNoClass, HasLarge, IsFirst, dumped_line}
 
 -- ---- a run with an archive
@@ -49,6 +49,7 @@ ListsNot contents d Memory = ⊤
 ListsNot contents d (Exit code) = ⊥
 ListsNot contents d Usage = ⊥
 ListsNot contents d (BadText number) = ⊥
+ListsNot contents d NoBoot = ⊥
 ListsNot contents d NoMain = ⊥
 ListsNot contents d (NotShared refuse) = ⊥
 ListsNot contents d Stopped = ⊥
@@ -72,6 +73,7 @@ HasNot contents folder name Memory = ⊤
 HasNot contents folder name (Exit code) = ⊥
 HasNot contents folder name Usage = ⊥
 HasNot contents folder name (BadText number) = ⊥
+HasNot contents folder name NoBoot = ⊥
 HasNot contents folder name NoMain = ⊥
 HasNot contents folder name Missing = ⊥
 HasNot contents folder name (NotShared refuse) = ⊥
@@ -91,6 +93,7 @@ IsNotIn bytes name ReadFault = ⊥
 IsNotIn bytes name (Exit code) = ⊥
 IsNotIn bytes name Usage = ⊥
 IsNotIn bytes name (BadText number) = ⊥
+IsNotIn bytes name NoBoot = ⊥
 IsNotIn bytes name NoMain = ⊥
 IsNotIn bytes name Missing = ⊥
 IsNotIn bytes name (NotShared refuse) = ⊥
@@ -131,6 +134,7 @@ PutsLine count before after WriteFault = GrowsByFront before after (dumped_line 
 PutsLine count before after Memory = GrowsByFront before after (dumped_line count)
 PutsLine count before after Usage = ⊥
 PutsLine count before after (BadText number) = ⊥
+PutsLine count before after NoBoot = ⊥
 PutsLine count before after NoMain = ⊥
 PutsLine count before after Missing = ⊥
 PutsLine count before after (NotShared refuse) = ⊥
@@ -146,6 +150,7 @@ WritesArchive old new faults path archive count before after WriteFault = (((new
 WritesArchive old new faults path archive count before after Memory = ((new ≡ old) × (after ≡ before)) ⊎ (Holds old new path archive × GrowsByFront before after (dumped_line count))
 WritesArchive old new faults path archive count before after Usage = ⊥
 WritesArchive old new faults path archive count before after (BadText number) = ⊥
+WritesArchive old new faults path archive count before after NoBoot = ⊥
 WritesArchive old new faults path archive count before after NoMain = ⊥
 WritesArchive old new faults path archive count before after Missing = ⊥
 WritesArchive old new faults path archive count before after (NotShared refuse) = ⊥
@@ -166,6 +171,7 @@ IsOfArchive (Limit quantity limit) = ⊤
 IsOfArchive Memory = ⊤
 IsOfArchive Usage = ⊥
 IsOfArchive (BadText number) = ⊥
+IsOfArchive NoBoot = ⊥
 IsOfArchive NoMain = ⊥
 IsOfArchive Missing = ⊥
 IsOfArchive (NotShared refuse) = ⊥
@@ -175,11 +181,11 @@ IsOfArchive ReadFault = ⊥
 
 -- ---- an assembly
 
-abbrev pub file_at : List ℕ → List ℕ → ClassFile
+abbrev pub file_at : List ℕ → List ℕ → File
 file_at path bytes = record { path = path; bytes = bytes }
 
 -- Files were written, one after the other; or the first of them, and why not all.
-abbrev pub WritesFiles : {T : Type 0} → Option Contents → Option Contents → ℕ × ℕ → List ClassFile → Result T ClassFault → Type 0
+abbrev pub WritesFiles : {T : Type 0} → Option Contents → Option Contents → ℕ × ℕ → List File → Result T ClassFault → Type 0
 WritesFiles old new faults files (Ok x) = new ≡ after_files old files
 WritesFiles old new faults files (Err class_faults.Write) = FailsAt old new files × Rose faults.0 faults.1
 WritesFiles old new faults files (Err class_faults.Memory) = WritesSome old new files
@@ -202,6 +208,7 @@ IsOfText (BadText line) = ⊤
 IsOfText WriteFault = ⊤
 IsOfText Memory = ⊤
 IsOfText Usage = ⊥
+IsOfText NoBoot = ⊥
 IsOfText NoMain = ⊥
 IsOfText Missing = ⊥
 IsOfText (NotShared refuse) = ⊥

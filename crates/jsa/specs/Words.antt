@@ -1,4 +1,4 @@
--- The words of a command.
+-- The words of a run with an archive option and of a dump, and the parts of words that other commands share.
 use Rattle.std.specs.Prelude.{ℕ, ◌^◌, List, [], ◌∷◌, ◌++◌, length, Bool, Option, Some, None, ◌==◌, ◌&&◌, ◌||◌, not, nat_eq, nat_le, nat_lt, if◌then◌else◌, codes}
 use Rattle.std.specs.Char.{is_ascii_alphanumeric, is_digit}
 use Rattle.std.specs.List.{list_all, ends_with, slice_split, join_with_byte}
@@ -172,11 +172,6 @@ pub record AsmRequest : Type 0 where
   pub text : List ℕ
   pub folder : List ℕ
 
-pub data Request : Type 0 where
-  Run : RunRequest → Request
-  Dump : DumpRequest → Request
-  Asm : AsmRequest → Request
-
 -- whether a run with this option is asked to use its archive; a dump is no run
 abbrev pub is_on : Option Sharing → Option Bool
 is_on None = Some false
@@ -190,12 +185,14 @@ is_dump (Some sharings.Auto) = false
 is_dump (Some sharings.On) = false
 is_dump (Some sharings.Dump) = true
 
--- The run of a main class: the folder is given, and no class list.
+-- The run of a main class with an archive option: the folder is given, and no class list. Without such an option the words
+-- are those of a run over a home.
 unfoldable pub run_with : Taken → Option (List ℕ) → Option RunRequest
 run_with t main = do
   folder ← t.folder
   on ← is_on t.sharing
   listless ← when (is_none t.list)
+  shared ← when (not (is_none t.archive && is_none t.sharing))
   name ← main
   Some (record { folder = folder; on = on; archive = t.archive; steps = unwrap_or t.steps default_steps; name = name })
 
@@ -208,40 +205,6 @@ dump_with t = do
   archive ← t.archive
   list ← t.list
   Some (record { folder = folder; archive = archive; list = list })
-
--- behind the options: a main class, or nothing for a dump
-unfoldable pub request_with : Taken → List (List ℕ) → Option Request
-request_with t [] = option_map Dump (dump_with t)
-request_with t (main ∷ []) = option_map Run (run_with t (internal_name main))
-request_with t (a ∷ b ∷ others) = None
-
--- The words of a run or a dump. A dump's are its four options; a run's are its options, in any order, and then the main
--- class.
-unfoldable pub request_by_options : List (List ℕ) → Option Request
-request_by_options words = request_with (options_from nothing words).0 (options_from nothing words).1
-
--- The three words of an assembly: --asm, the path of the text and the folder, neither of them empty.
-abbrev pub asm_of : List ℕ → List ℕ → List ℕ → Option AsmRequest
-asm_of option text folder =
-    if bytes_eq option (codes "--asm") && not (length text == 0) && not (length folder == 0) then Some (record { text = text; folder = folder }) else None
-
-unfoldable pub asm_request : List (List ℕ) → Option AsmRequest
-asm_request [] = None
-asm_request (a ∷ []) = None
-asm_request (a ∷ b ∷ []) = None
-asm_request (option ∷ text ∷ folder ∷ []) = asm_of option text folder
-asm_request (a ∷ b ∷ c ∷ d ∷ others) = None
-
--- The grammar of the words: those of an assembly, a run or a dump. No words are two of them.
-unfoldable pub request_of : List (List ℕ) → Option Request
-request_of words = option_or (option_map Asm (asm_request words)) (request_by_options words)
-
--- the run that is asked for, where it is one
-abbrev pub run_of : Option Request → Option RunRequest
-run_of None = None
-run_of (Some (Run run)) = Some run
-run_of (Some (Dump dump)) = None
-run_of (Some (Asm asm)) = None
 
 -- the path of the class file
 abbrev pub path_of : RunRequest → List ℕ

@@ -364,7 +364,12 @@ fn a_class_file_above_the_limit_is_told_in_a_run(rt: HostRuntime) -> Result<(), 
 }
 
 // Does the command of these words over a store and an out whose put of a number, counted from 1, fails.
-fn does_failing(alloc: Global, line: &str, files: MemoryFiles, put: u64) -> Result<Did, Fail> {
+pub(crate) fn does_failing(
+    alloc: Global,
+    line: &str,
+    files: MemoryFiles,
+    put: u64,
+) -> Result<Did, Fail> {
     let words = words_of(alloc, line)?;
     let mut out = MemorySink::new(alloc);
     out.fail(put, 3)?;

@@ -39,7 +39,7 @@ fn lines_of(alloc: Global, text: &str) -> Result<Vec<u8>, Fail> {
     Ok(lines)
 }
 
-fn size_at(alloc: Global, files: &mut MemoryFiles, path: &str) -> usize {
+pub(crate) fn size_at(alloc: Global, files: &mut MemoryFiles, path: &str) -> usize {
     match found_at(alloc, files, path) {
         Some(bytes) => bytes.len(),
         None => 0,

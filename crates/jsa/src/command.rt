@@ -10,7 +10,7 @@ ghost use Rattle.jsa.specs.Headline.{RunsAsFromFile};
 ghost use Rattle.jsa.specs.ClassList.{class_list};
 ghost use Rattle.jsa.specs.Dumps.{Listed};
 ghost use Rattle.jsa.specs.Steps.{texts_of};
-ghost use Rattle.jsa.specs.Words.{request_of, Run, Dump, Asm};
+ghost use Rattle.jsa.specs.Grammar.{request_of, Run, Dump, Asm, HasFewFolders};
 ghost use Rattle.jsa.specs.Requests.{command_view, run_view, dump_view, asm_view};
 
 use crate::archive_run::run_archived;
@@ -19,6 +19,7 @@ use crate::dump::{dump_names, read_names};
 use crate::ended::Ended;
 use crate::file_run::run_path;
 use crate::gathering::subject_at;
+use crate::home::{make_home_request, run_home_request};
 use crate::lines::tell;
 use crate::words::{AsmWords, Command, DumpWords, RunWords, read_words};
 use jsa_files::{Files, Sink};
@@ -27,22 +28,28 @@ use std::alloc::Global;
 /// Does what the words after the program's name ask for, and puts the end's line to `err`. The store comes back with
 /// every answer.
 ///
-/// - `Usage`: the words are neither those of a run nor those of a dump or an assembly.
-/// - `BadText`: a line of the text of an assembly is outside the grammar; this is the first, counted from 1.
-/// - `NoMain`: no mapped archive holds the main class, and the folder has no file of it.
+/// - `Usage`: the words are those of no command.
+/// - `BadText`: a line of the text of an assembly, or of the boot library, is outside the grammar; this is the first, counted
+///   from 1.
+/// - `NoBoot`: a required class of a run over a home is wanting; the line tells the first.
+/// - `NoMain`: the main class doesn't load. With an archive option: no mapped archive holds it, and the folder has no file of
+///   it.
 /// - `Missing`: the class list of a dump or the text of an assembly isn't there.
 /// - `NotShared`: the archive of a run with `-Xshare:on` is refused, for the first cause that holds.
-/// - `Limit`: the first of these that passes its limit in the order in which they are met: `FileSize`, where the archive
-///   of a run, the class list of a dump, the text of an assembly, a class file of the folder where an archive is given, or
-///   the class's file has more than `MAX_FILE` bytes; `Names`, where the folder has more than `MAX_NAMES` class files and an archive is given;
-///   `Classes`, where a dump lists more than 65,535; `ArchiveSize`, where a dump's archive has more than 67,108,864 bytes.
+/// - `Limit`: the first of these that passes its limit in the order in which they are met: `FileSize`, where a class file that
+///   a run over a home is to read, the archive of a run, the class list of a dump, the text of an assembly, a class file of the
+///   folder where an archive is given, or the class's file has more than `MAX_FILE` bytes; `Loaded`, where a run over a home
+///   would load more than `MAX_LOADED` classes; `Names`, where the folder has more than `MAX_NAMES` class files and an archive
+///   is given; `Classes`, where a dump lists more than 65,535; `ArchiveSize`, where a dump's archive has more than 67,108,864
+///   bytes.
 /// - `Unsupported`: the main class is no class of the first form; a listed name has no file, or one that is no such class
 ///   or has another name inside.
-/// - `Exit(0)`: the class ran, and `out` took what its `main` put; or the archive was written, and `out` took how many
-///   classes it holds; or each class of the text was written.
+/// - `Exit(0)`: the class ran, `out` took what its `main` put, and the names of the loaded classes were written where a file
+///   is given for them; or the archive was written, and `out` took how many classes it holds; or each class of the text, or the
+///   home, was written.
 /// - `Stopped`: as many turns were made as the limit, and `main` hasn't returned.
-/// - `ReadFault`, `WriteFault`: the store failed at reading a file, or `out` at a put or the store at writing the archive
-///   or a class file.
+/// - `ReadFault`, `WriteFault`: the store failed at reading a file, or `out` at a put or the store at writing a file. Where
+///   that is the class list of a run, `main` has returned.
 /// - `Memory`: memory ran out; this may come in place of any answer.
 pub fn run_command<F: Files, O: Sink, E: Sink>(
     alloc: Global,
@@ -63,7 +70,8 @@ pub fn run_command<F: Files, O: Sink, E: Sink>(
     // two class files clash.
     ensures headline { RunsAsFromFile (request_of (map string_bytes words.now)) (F.store files) (O.taken out.old) (O.taken out.new) result.0 }
 
-    // A dump writes its archive alone, and an assembly the files of its classes; nothing else writes a file of a class.
+    // A run over a home writes its class list alone, a dump its archive, and an assembly and the making of a home their files;
+    // nothing but the last two writes a file of a class.
     ensures leaves { Leaves (request_of (map string_bytes words.now)) (F.store files) (F.store result.1) }
     ensures class_files { KeepsClassFiles (request_of (map string_bytes words.now)) (contents_told (F.store files)) (contents_told (F.store result.1)) }
 
@@ -84,9 +92,7 @@ pub fn run_command<F: Files, O: Sink, E: Sink>(
     ensures out_stays { O.can_fail out.new → O.can_fail out.old }
     ensures err_stays { E.can_fail err.new → E.can_fail err.old }
 {
-    let mut files = files;
-    let ended = do_words(alloc, words, &mut files, out, err);
-    (ended, files)
+    do_words(alloc, words, files, out, err)
 }
 
 // Does what the words ask for, and puts the end's line.
@@ -94,29 +100,29 @@ pub fn run_command<F: Files, O: Sink, E: Sink>(
 fn do_words<F: Files, O: Sink, E: Sink>(
     alloc: Global,
     words: &[String],
-    files: &mut F,
+    files: F,
     out: &mut O,
     err: &mut E,
-) -> Ended
-    ensures answer { Answered (RequestAnswers (request_of (map string_bytes words.now)) (F.store files.old) (F.store files.new) (F.write_faults files.old, F.write_faults files.new) (O.taken out.old) (O.taken out.new)) (steps_of (request_of (map string_bytes words.now)))
-        (E.taken err.old) (E.taken err.new) (E.faults err.old) (E.faults err.new) (E.can_fail err.old) result }
-    ensures leaves { Leaves (request_of (map string_bytes words.now)) (F.store files.old) (F.store files.new) }
-    ensures memory { result ≡ Ended.Memory → TakesSomeFront (RequestAnswers (request_of (map string_bytes words.now)) (F.store files.old) (F.store files.new) (F.write_faults files.old, F.write_faults files.new) (O.taken out.old) (O.taken out.new))
-        (CountsFor (request_of (map string_bytes words.now)) (F.write_faults files.old) (F.write_faults files.new) (O.faults out.old) (O.faults out.new)) (steps_of (request_of (map string_bytes words.now)))
-        (E.taken err.old) (E.taken err.new) (F.read_faults files.old) (F.read_faults files.new) }
-    ensures err_faults { CountsErr (E.faults err.old) (E.faults err.new) result }
-    ensures read_fault { CountsReads (F.read_faults files.old) (F.read_faults files.new) result }
-    ensures write_fault { CountsFor (request_of (map string_bytes words.now)) (F.write_faults files.old) (F.write_faults files.new) (O.faults out.old) (O.faults out.new) result }
-    ensures read_can_fail { result ≡ Ended.ReadFault → F.can_fail files.old }
-    ensures write_can_fail { result ≡ Ended.WriteFault → CanFailWrites (request_of (map string_bytes words.now)) (F.can_fail files.old) (O.can_fail out.old) }
-    ensures files_stay { F.can_fail files.new → F.can_fail files.old }
+) -> (Ended, F)
+    ensures answer { Answered (RequestAnswers (request_of (map string_bytes words.now)) (F.store files) (F.store result.1) (F.write_faults files, F.write_faults result.1) (O.taken out.old) (O.taken out.new)) (steps_of (request_of (map string_bytes words.now)))
+        (E.taken err.old) (E.taken err.new) (E.faults err.old) (E.faults err.new) (E.can_fail err.old) result.0 }
+    ensures leaves { Leaves (request_of (map string_bytes words.now)) (F.store files) (F.store result.1) }
+    ensures memory { result.0 ≡ Ended.Memory → TakesSomeFront (RequestAnswers (request_of (map string_bytes words.now)) (F.store files) (F.store result.1) (F.write_faults files, F.write_faults result.1) (O.taken out.old) (O.taken out.new))
+        (CountsFor (request_of (map string_bytes words.now)) (F.write_faults files) (F.write_faults result.1) (O.faults out.old) (O.faults out.new)) (steps_of (request_of (map string_bytes words.now)))
+        (E.taken err.old) (E.taken err.new) (F.read_faults files) (F.read_faults result.1) }
+    ensures err_faults { CountsErr (E.faults err.old) (E.faults err.new) result.0 }
+    ensures read_fault { CountsReads (F.read_faults files) (F.read_faults result.1) result.0 }
+    ensures write_fault { CountsFor (request_of (map string_bytes words.now)) (F.write_faults files) (F.write_faults result.1) (O.faults out.old) (O.faults out.new) result.0 }
+    ensures read_can_fail { result.0 ≡ Ended.ReadFault → F.can_fail files }
+    ensures write_can_fail { result.0 ≡ Ended.WriteFault → CanFailWrites (request_of (map string_bytes words.now)) (F.can_fail files) (O.can_fail out.old) }
+    ensures files_stay { F.can_fail result.1 → F.can_fail files }
     ensures out_stays { O.can_fail out.new → O.can_fail out.old }
     ensures err_stays { E.can_fail err.new → E.can_fail err.old }
 {
     match read_words(alloc, words) {
         Ok(Some(command)) => do_command(alloc, &command, files, out, err),
-        Ok(None) => tell(alloc, Ended::Usage, b"", 0, err),
-        Err(_) => tell(alloc, Ended::Memory, b"", 0, err),
+        Ok(None) => (tell(alloc, Ended::Usage, b"", 0, err), files),
+        Err(_) => (tell(alloc, Ended::Memory, b"", 0, err), files),
     }
 }
 
@@ -124,29 +130,48 @@ fn do_words<F: Files, O: Sink, E: Sink>(
 fn do_command<F: Files, O: Sink, E: Sink>(
     alloc: Global,
     command: &Command,
-    files: &mut F,
+    files: F,
     out: &mut O,
     err: &mut E,
-) -> Ended
-    ensures answer { Answered (RequestAnswers (Some (command_view command.now)) (F.store files.old) (F.store files.new) (F.write_faults files.old, F.write_faults files.new) (O.taken out.old) (O.taken out.new)) (steps_of (Some (command_view command.now)))
-        (E.taken err.old) (E.taken err.new) (E.faults err.old) (E.faults err.new) (E.can_fail err.old) result }
-    ensures leaves { Leaves (Some (command_view command.now)) (F.store files.old) (F.store files.new) }
-    ensures memory { result ≡ Ended.Memory → TakesSomeFront (RequestAnswers (Some (command_view command.now)) (F.store files.old) (F.store files.new) (F.write_faults files.old, F.write_faults files.new) (O.taken out.old) (O.taken out.new))
-        (CountsFor (Some (command_view command.now)) (F.write_faults files.old) (F.write_faults files.new) (O.faults out.old) (O.faults out.new)) (steps_of (Some (command_view command.now)))
-        (E.taken err.old) (E.taken err.new) (F.read_faults files.old) (F.read_faults files.new) }
-    ensures err_faults { CountsErr (E.faults err.old) (E.faults err.new) result }
-    ensures read_fault { CountsReads (F.read_faults files.old) (F.read_faults files.new) result }
-    ensures write_fault { CountsFor (Some (command_view command.now)) (F.write_faults files.old) (F.write_faults files.new) (O.faults out.old) (O.faults out.new) result }
-    ensures read_can_fail { result ≡ Ended.ReadFault → F.can_fail files.old }
-    ensures write_can_fail { result ≡ Ended.WriteFault → CanFailWrites (Some (command_view command.now)) (F.can_fail files.old) (O.can_fail out.old) }
-    ensures files_stay { F.can_fail files.new → F.can_fail files.old }
+) -> (Ended, F)
+    requires few { HasFewFolders (command_view command.now) }
+    ensures answer { Answered (RequestAnswers (Some (command_view command.now)) (F.store files) (F.store result.1) (F.write_faults files, F.write_faults result.1) (O.taken out.old) (O.taken out.new)) (steps_of (Some (command_view command.now)))
+        (E.taken err.old) (E.taken err.new) (E.faults err.old) (E.faults err.new) (E.can_fail err.old) result.0 }
+    ensures leaves { Leaves (Some (command_view command.now)) (F.store files) (F.store result.1) }
+    ensures memory { result.0 ≡ Ended.Memory → TakesSomeFront (RequestAnswers (Some (command_view command.now)) (F.store files) (F.store result.1) (F.write_faults files, F.write_faults result.1) (O.taken out.old) (O.taken out.new))
+        (CountsFor (Some (command_view command.now)) (F.write_faults files) (F.write_faults result.1) (O.faults out.old) (O.faults out.new)) (steps_of (Some (command_view command.now)))
+        (E.taken err.old) (E.taken err.new) (F.read_faults files) (F.read_faults result.1) }
+    ensures err_faults { CountsErr (E.faults err.old) (E.faults err.new) result.0 }
+    ensures read_fault { CountsReads (F.read_faults files) (F.read_faults result.1) result.0 }
+    ensures write_fault { CountsFor (Some (command_view command.now)) (F.write_faults files) (F.write_faults result.1) (O.faults out.old) (O.faults out.new) result.0 }
+    ensures read_can_fail { result.0 ≡ Ended.ReadFault → F.can_fail files }
+    ensures write_can_fail { result.0 ≡ Ended.WriteFault → CanFailWrites (Some (command_view command.now)) (F.can_fail files) (O.can_fail out.old) }
+    ensures files_stay { F.can_fail result.1 → F.can_fail files }
     ensures out_stays { O.can_fail out.new → O.can_fail out.old }
     ensures err_stays { E.can_fail err.new → E.can_fail err.old }
 {
     match command {
-        Command::Run(request) => run_request(alloc, request, files, out, err),
-        Command::Dump(request) => dump_request(alloc, request, files, out, err),
-        Command::Asm(request) => assemble_request(alloc, request, files, err),
+        Command::HomeRun(request) => run_home_request(alloc, request, files, out, err),
+        Command::MakeHome(folder) => {
+            let mut files = files;
+            let ended = make_home_request(alloc, folder.as_str(), &mut files, err);
+            (ended, files)
+        }
+        Command::Run(request) => {
+            let mut files = files;
+            let ended = run_request(alloc, request, &mut files, out, err);
+            (ended, files)
+        }
+        Command::Dump(request) => {
+            let mut files = files;
+            let ended = dump_request(alloc, request, &mut files, out, err);
+            (ended, files)
+        }
+        Command::Asm(request) => {
+            let mut files = files;
+            let ended = assemble_request(alloc, request, &mut files, err);
+            (ended, files)
+        }
     }
 }
 

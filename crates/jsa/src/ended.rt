@@ -8,14 +8,17 @@ use jsa_base::Quantity;
 /// How a command ended.
 #[derive(Clone, Copy, Debug, PartialEq, Eq)]
 pub enum Ended {
-    /// The run ended, with this status. A dump or an assembly whose files were written ends with 0.
+    /// The run ended, with this status. Another command whose files were written ends with 0.
     Exit(u8),
     /// The words are outside the grammar of commands.
     Usage,
     /// This line of the text is the first outside the grammar, counted from 1. Where an `end` is missing at the end of the
     /// text it is the line after the last.
     BadText(u32),
-    /// No mapped archive holds the main class, and the folder has no file of it.
+    /// A required class of a run over a home is wanting: it doesn't load or link, or isn't as it is asked for.
+    NoBoot,
+    /// The main class doesn't load. Of a run with an archive option: no mapped archive holds it, and the folder has no file of
+    /// it.
     NoMain,
     /// The class list of a dump or the text of an assembly isn't there.
     Missing,
@@ -28,7 +31,8 @@ pub enum Ended {
     Unsupported,
     /// A file could not be read.
     ReadFault,
-    /// The program's output, the archive or a class file could not be written.
+    /// The program's output, the archive, a class list or a class file could not be written. Where it is the class list of a
+    /// run, `main` has returned.
     WriteFault,
     /// The quantity is the first that passes its limit, which is the number.
     Limit(Quantity, u64),
@@ -43,6 +47,7 @@ pub fn status(ended: Ended) -> u8
     match ended {
         Ended::Exit(code) => code,
         Ended::Usage => 2,
+        Ended::NoBoot => 3,
         Ended::NoMain => 4,
         Ended::Missing => 5,
         Ended::NotShared(_) => 6,

@@ -1,4 +1,5 @@
-//! Runs one class from its file or from an archive, dumps classes into an archive, and assembles texts into class files.
+//! Runs a main class over a home of boot classes or out of an archive, dumps classes into an archive, assembles texts into class
+//! files, and makes homes.
 #![tactic(auto)]
 
 mod archive_run;
@@ -17,12 +18,18 @@ mod folder;
 mod gathering;
 #[cfg(test)]
 mod hello_tests;
+mod home;
+#[cfg(test)]
+mod home_tests;
+mod home_words;
 mod lines;
 #[cfg(test)]
 mod test_classes;
 #[cfg(test)]
 mod tests;
 mod words;
+#[cfg(test)]
+mod words_tests;
 
 use command::run_command;
 use ended::{Ended, status};

@@ -10,14 +10,14 @@ use std::test::Fail;
 
 // What a command left.
 #[derive(Drop)]
-struct Done {
-    ended: Ended,
-    out: MemorySink,
-    err: MemorySink,
-    files: MemoryFiles,
+pub(crate) struct Done {
+    pub(crate) ended: Ended,
+    pub(crate) out: MemorySink,
+    pub(crate) err: MemorySink,
+    pub(crate) files: MemoryFiles,
 }
 
-fn run_words(alloc: Global, words: &[&str], files: MemoryFiles) -> Result<Done, Fail> {
+pub(crate) fn run_words(alloc: Global, words: &[&str], files: MemoryFiles) -> Result<Done, Fail> {
     let mut owned = Vec::new(alloc);
     for word in words {
         owned.push(String::from_str(alloc, word)?)?;
@@ -33,11 +33,11 @@ fn run_words(alloc: Global, words: &[&str], files: MemoryFiles) -> Result<Done, 
     })
 }
 
-// Runs a class as the file of Main.
+// Runs a class as the file of Main, without a home.
 fn run_main(alloc: Global, class: &[u8]) -> Result<Done, Fail> {
     let mut files = MemoryFiles::new(alloc);
     files.with("app/Main.class", class)?;
-    run_words(alloc, &["-cp", "app", "Main"], files)
+    run_words(alloc, &["-Xshare:auto", "-cp", "app", "Main"], files)
 }
 
 // `main` puts 40 + 2 by bipush, iconst_2, iadd and invokestatic.
@@ -107,10 +107,12 @@ fn a_division_is_unsupported(rt: HostRuntime) -> Result<(), Fail> {
 #[test]
 fn an_empty_folder_has_no_main(rt: HostRuntime) -> Result<(), Fail> {
     let alloc = rt.alloc();
-    let done = run_words(alloc, &["-cp", "app", "Main"], MemoryFiles::new(alloc))?;
+    let words = ["-Xshare:auto", "-cp", "app", "Main"];
+    let done = run_words(alloc, &words, MemoryFiles::new(alloc))?;
     assert_eq!(rt; done.ended, Ended::NoMain);
     assert_eq!(rt; done.err.bytes(), b"no main in Main\n".as_slice());
-    let done = run_words(alloc, &["-cp", "app", "p.Main"], MemoryFiles::new(alloc))?;
+    let words = ["-Xshare:auto", "-cp", "app", "p.Main"];
+    let done = run_words(alloc, &words, MemoryFiles::new(alloc))?;
     assert_eq!(rt; done.ended, Ended::NoMain);
     assert_eq!(rt; status(done.ended), 4);
     assert_eq!(rt; done.out.bytes(), b"".as_slice());
@@ -124,7 +126,7 @@ fn a_class_of_a_package_is_found_below_its_folder(rt: HostRuntime) -> Result<(),
     let alloc = rt.alloc();
     let mut files = MemoryFiles::new(alloc);
     files.with("a/b/p/q/Main.class", &PUTS_42_AND_MINUS_1)?;
-    let done = run_words(alloc, &["-cp", "a/b", "p.q.Main"], files)?;
+    let done = run_words(alloc, &["-Xshare:auto", "-cp", "a/b", "p.q.Main"], files)?;
     assert_eq!(rt; done.ended, Ended::Exit(0));
     assert_eq!(rt; done.out.bytes(), b"42\n-1\n".as_slice());
     Ok(())
@@ -179,14 +181,13 @@ fn edited(rt: &impl Abort, alloc: Global, edits: &str) -> Result<Vec<u8>, Fail> 
 static FAULTY_WORDS: &str = "
 -cp
 -cp app
-Main
 app Main
 -cp app Main Main
 -cp app Main --steps=9
 -cp --steps=9 app Main
 -cp app --steps=9
 -cp app --steps=9 Main Main
--cp app --steps=9 --steps=9 Main
+-Xshare:auto -cp app --steps=9 --steps=9 Main
 -cp app --steps Main
 -cp app --steps 9 Main
 -cp app --step=9 Main
@@ -209,9 +210,10 @@ app Main
 -cp app --steps=000000000000000000009 Main
 -cp app --steps=0x10000000000000000 Main
 -cp app --steps=0x00000000000000009 Main
--cp app -cp app Main
--classpath app Main
+-Xshare:auto -cp app -cp app Main
+-Xshare:auto -classpath app Main
 -Xshare:maybe -cp app Main
+-Xshare:auto Main
 -Xshare:auto -Xshare:on -cp app Main
 -Xshare:on -cp app Main -XX:SharedArchiveFile=a
 -XX:SharedArchiveFile= -cp app Main
@@ -227,17 +229,23 @@ app Main
 -Xshare:dump -XX:SharedClassListFile=l.class -XX:SharedArchiveFile=a -cp app
 -Xshare:dump -XX:SharedClassListFile=l -XX:SharedArchiveFile=app/Main.class -cp app
 -Xshare:dump -XX:SharedClassListFile=l -XX:SharedArchiveFile=a --steps=9 -cp app
+--home= -cp app Main
+--home=h -Xshare:auto -cp app Main
+-XX:DumpLoadedClassList= -cp app Main
+-XX:DumpLoadedClassList=l -Xshare:auto -cp app Main
+--make-home
+--make-home h Main
 -cp * Main
--cp a:b Main
+-Xshare:auto -cp a:b Main
 -cp app: Main
 -cp app.jar Main
 -cp .zip Main
--cp app Main.
--cp app .Main
--cp app p..Main
--cp app p/Main
--cp app Ma-in
--cp app Ma\u{e9}n";
+-Xshare:auto -cp app Main.
+-Xshare:auto -cp app .Main
+-Xshare:auto -cp app p..Main
+-Xshare:auto -cp app p/Main
+-Xshare:auto -cp app Ma-in
+-Xshare:auto -cp app Ma\u{e9}n";
 
 fn refuses_words(rt: &impl Abort, alloc: Global, line: &str) -> Result<(), Fail> {
     let mut words = Vec::new(alloc);
@@ -277,7 +285,8 @@ fn run_to(alloc: Global, class: &[u8], limit: &str) -> Result<Done, Fail> {
     let mut files = MemoryFiles::new(alloc);
     files.with("app/Main.class", class)?;
     let steps = format!(in alloc; "--steps={limit}")?;
-    run_words(alloc, &["-cp", "app", steps.as_str(), "Main"], files)
+    let words = ["-Xshare:auto", "-cp", "app", steps.as_str(), "Main"];
+    run_words(alloc, &words, files)
 }
 
 fn stops_at_its_limit(rt: &impl Abort, alloc: Global, line: &str) -> Result<(), Fail> {
@@ -323,7 +332,7 @@ fn each_narrowing_and_each_faulty_word_refuses(rt: HostRuntime) -> Result<(), Fa
     }
     let none = MemoryFiles::new(rt.alloc());
     assert_eq!(rt;
-        run_words(rt.alloc(), &["-cp", "", "Main"], none)?.ended,
+        run_words(rt.alloc(), &["-Xshare:auto", "-cp", "", "Main"], none)?.ended,
         Ended::Usage
     );
     for line in REFUSED.lines() {
@@ -416,7 +425,7 @@ fn run_failing(alloc: Global, steps: &str, failing: Failing) -> Result<Done, Fai
     let mut err = MemorySink::new(alloc);
     err.fail(failing.told, failing.kept)?;
     let mut words = Vec::new(alloc);
-    for word in ["-cp", "app", steps, "Main"] {
+    for word in ["-Xshare:auto", "-cp", "app", steps, "Main"] {
         words.push(String::from_str(alloc, word)?)?;
     }
     let (ended, files) = run_command(alloc, &words, files, &mut out, &mut err);

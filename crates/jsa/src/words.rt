@@ -5,9 +5,12 @@ ghost use Rattle.std.specs.List.{list_all, join_with_byte};
 ghost use Rattle.std.specs.Option.{option_copied, option_map};
 ghost use Rattle.std.specs.Str.{byte};
 ghost use Rattle.std.specs.String.{string_bytes};
-ghost use Rattle.jsa.specs.Words.{is_numeral, numeral, behind, number_of, steps_option, archive_path, archive_option, list_option, sharing_option, folder_option, once, with_folder, with_archive, with_list, with_steps, with_sharing, with_word, with_words, options_from, nothing, is_on, is_dump, run_with, dump_with, request_with, ends_in, has_no_colon, is_folder, is_archive_path, is_word_byte, is_segment, segments_of, internal_name, request_by_options, asm_of, asm_request, request_of, path_of, Run, Dump};
+ghost use Rattle.jsa.specs.Words.{is_numeral, numeral, behind, number_of, steps_option, archive_path, archive_option, list_option, sharing_option, folder_option, once, with_folder, with_archive, with_list, with_steps, with_sharing, with_word, with_words, options_from, nothing, is_on, is_dump, run_with, dump_with, ends_in, has_no_colon, is_folder, is_archive_path, is_word_byte, is_segment, segments_of, internal_name, path_of};
+ghost use Rattle.jsa.specs.Grammar.{request_with, request_by_options, asm_of, asm_request, request_of, Run, Dump};
 ghost use Rattle.jsa.specs.Requests.{command_view, run_view, dump_view, asm_view, is_on_share, taken_view, left_view};
 
+use crate::home_words::{home_run_words, make_home_words};
+use home_run::HomeRun;
 use std::alloc::{AllocError, Global};
 
 /// Whether a run has to use its archive.
@@ -19,7 +22,7 @@ pub enum Share {
     On,
 }
 
-/// What a run is asked for.
+/// What a run with an archive option is asked for.
 #[derive(Debug, Drop)]
 pub struct RunWords {
     /// The folder of the class files, as it was given.
@@ -57,12 +60,16 @@ pub struct AsmWords {
 /// What the words ask for.
 #[derive(Debug, Drop)]
 pub enum Command {
-    /// A main class is run.
+    /// A main class is run, with an archive option.
     Run(RunWords),
     /// An archive is dumped.
     Dump(DumpWords),
     /// A text is assembled.
     Asm(AsmWords),
+    /// A main class is run over a home.
+    HomeRun(HomeRun),
+    /// A home is made in this folder.
+    MakeHome(String),
 }
 
 /// How many turns a run makes at most where the words don't say it.
@@ -86,7 +93,7 @@ struct Taken<'a> {
     sharing: Option<Sharing>,
 }
 
-fn ends_in(end: &[u8], bytes: &[u8]) -> bool
+pub(crate) fn ends_in(end: &[u8], bytes: &[u8]) -> bool
     ensures { result ≡ ends_in end.now bytes.now }
 {
     bytes.ends_with(end)
@@ -203,7 +210,7 @@ fn numeral(digits: &str, radix: u32, most: usize) -> Option<u64>
 }
 
 // What stands behind the front of the text.
-fn behind<'a>(front: &str, text: &'a str) -> Option<&'a str>
+pub(crate) fn behind<'a>(front: &str, text: &'a str) -> Option<&'a str>
     ensures { option_copied result ≡ behind front.now text.now }
 {
     text.strip_prefix(front)
@@ -218,7 +225,7 @@ fn number(word: &str) -> Option<u64>
     }
 }
 
-fn steps_option(word: &str) -> Option<u64>
+pub(crate) fn steps_option(word: &str) -> Option<u64>
     ensures { result ≡ steps_option word.now }
 {
     match behind("--steps=", word) {
@@ -227,7 +234,7 @@ fn steps_option(word: &str) -> Option<u64>
     }
 }
 
-fn archive_path<'a>(path: &'a str) -> Option<&'a str>
+pub(crate) fn archive_path<'a>(path: &'a str) -> Option<&'a str>
     ensures { option_copied result ≡ archive_path path.now }
 {
     if is_archive_path(path) {
@@ -435,7 +442,7 @@ fn is_dump(sharing: Option<Sharing>) -> bool
 }
 
 // The text as one of its own, where there is one.
-fn owned(alloc: Global, text: Option<&str>) -> Result<Option<String>, AllocError>
+pub(crate) fn owned(alloc: Global, text: Option<&str>) -> Result<Option<String>, AllocError>
     ensures { IfOk result (λ own. option_map string_bytes own ≡ option_copied text.entry) }
 {
     let Some(text) = text else {
@@ -445,7 +452,7 @@ fn owned(alloc: Global, text: Option<&str>) -> Result<Option<String>, AllocError
     Ok(Some(own))
 }
 
-// The run of the word that stands behind the options.
+// The run of the word that stands behind the options, one of which is an archive option.
 #[tactic(auto, unfolding(crate::specs::Words::run_with))]
 fn run_with(alloc: Global, taken: Taken<'_>, main: &str) -> Result<Option<RunWords>, AllocError>
     ensures { IfOk result (λ run. option_map run_view run ≡ run_with (taken_view taken.entry) (internal_name main.now)) }
@@ -457,6 +464,9 @@ fn run_with(alloc: Global, taken: Taken<'_>, main: &str) -> Result<Option<RunWor
         return Ok(None);
     };
     if taken.list.is_some() {
+        return Ok(None);
+    }
+    if taken.archive.is_none() && taken.sharing.is_none() {
         return Ok(None);
     }
     let Some(name) = internal_name(alloc, main)? else {
@@ -519,7 +529,7 @@ fn dump(alloc: Global, taken: Taken<'_>) -> Result<Option<Command>, AllocError>
 }
 
 // What the words behind the options ask for.
-#[tactic(auto, unfolding(crate::specs::Words::request_with))]
+#[tactic(auto, unfolding(crate::specs::Grammar::request_with))]
 fn request_with(
     alloc: Global,
     taken: Taken<'_>,
@@ -537,7 +547,7 @@ fn request_with(
 }
 
 // What the words of a run or a dump ask for.
-#[tactic(auto, unfolding(crate::specs::Words::request_by_options))]
+#[tactic(auto, unfolding(crate::specs::Grammar::request_by_options))]
 fn command_by_options(alloc: Global, words: &[String]) -> Result<Option<Command>, AllocError>
     ensures { IfOk result (λ command. option_map command_view command ≡ request_by_options (map string_bytes words.now)) }
 {
@@ -562,7 +572,7 @@ fn asm_of(
     Ok(Some(AsmWords { text, folder }))
 }
 
-#[tactic(auto, unfolding(crate::specs::Words::asm_request))]
+#[tactic(auto, unfolding(crate::specs::Grammar::asm_request))]
 fn asm_words(alloc: Global, words: &[String]) -> Result<Option<AsmWords>, AllocError>
     ensures { IfOk result (λ asm. option_map asm_view asm ≡ asm_request (map string_bytes words.now)) }
 {
@@ -581,26 +591,41 @@ fn asm_words(alloc: Global, words: &[String]) -> Result<Option<AsmWords>, AllocE
     asm_of(alloc, option.as_str(), text.as_str(), folder.as_str())
 }
 
-/// What the words ask for, or `None` where they are outside the grammar, which is that of a run, of a dump or of an
-/// assembly.
+/// What the words ask for, or `None` where they are outside the grammar, which is that of a run over a home, of the making
+/// of a home, of a run with an archive option, of a dump or of an assembly.
 ///
-/// A run: options in any order, each at most once, then a main class and nothing else. The options are `-cp` with a
-/// folder, which has to be there, `--steps=N`, one of `-Xshare:auto` and `-Xshare:on`, and `-XX:SharedArchiveFile=A`.
+/// A run over a home: options in any order, each as often as one likes, the last of them counting, then a main class and
+/// nothing else. The options are `-cp` or `-classpath` with a class path (`.` where it isn't given), `--home=DIR`
+/// (`jsa-home`), `--steps=N` and `-XX:DumpLoadedClassList=F`. A class path is empty, with no folder, or it is up to 64
+/// folders with a `:` between each two; no folder is empty, is `*` or ends in `.jar` or `.zip`. DIR isn't empty. The main
+/// class is any word that doesn't begin with `-`, and each of its dots is read as a slash.
+/// The making of a home: `--make-home` and a folder that isn't empty, and nothing else.
+///
+/// A run with an archive option: options in any order, each at most once, then a main class and nothing else. The options
+/// are `-cp` with a folder, which has to be there, `--steps=N`, one of `-Xshare:auto` and `-Xshare:on`, and
+/// `-XX:SharedArchiveFile=A`; one of the last three has to be there too.
 /// A dump: `-Xshare:dump`, `-XX:SharedClassListFile=F`, `-XX:SharedArchiveFile=A` and `-cp` with a folder, in any order,
 /// each once, and nothing else.
 /// An assembly: `--asm`, the path of a text and a folder, neither of them empty, and nothing else.
 ///
-/// The folder of a run or a dump isn't empty, isn't `*`, holds no `:` and doesn't end in `.jar` or `.zip`. A and F aren't empty, hold no
-/// `:` and don't end in `.class`. N is 1 to 20 decimal digits, or `0x` and 1 to 16 hexadecimal digits, and below 2^64.
-/// The main class consists of ASCII letters, digits, `_` and `$` in segments between dots, none of them empty.
-#[tactic(auto, unfolding(crate::specs::Words::request_of))]
+/// The folder of a run with an archive option or a dump isn't empty, isn't `*`, holds no `:` and doesn't end in `.jar` or
+/// `.zip`, and the main class of such a run consists of ASCII letters, digits, `_` and `$` in segments between dots, none of
+/// them empty. A and F aren't empty, hold no `:` and don't end in `.class`. N is 1 to 20 decimal digits, or `0x` and 1 to 16
+/// hexadecimal digits, and below 2^64.
+#[tactic(auto, unfolding(crate::specs::Grammar::request_of))]
 pub fn read_words(alloc: Global, words: &[String]) -> Result<Option<Command>, AllocError>
     ensures { IfOk result (λ command. option_map command_view command ≡ request_of (map string_bytes words.now)) }
 {
-    match asm_words(alloc, words)? {
-        Some(asm) => Ok(Some(Command::Asm(asm))),
-        None => command_by_options(alloc, words),
+    if let Some(asm) = asm_words(alloc, words)? {
+        return Ok(Some(Command::Asm(asm)));
     }
+    if let Some(folder) = make_home_words(alloc, words)? {
+        return Ok(Some(Command::MakeHome(folder)));
+    }
+    if let Some(run) = home_run_words(alloc, words)? {
+        return Ok(Some(Command::HomeRun(run)));
+    }
+    command_by_options(alloc, words)
 }
 
 /// The path of the main class's file: its folder, a slash, its internal name and `.class`.
@@ -612,175 +637,4 @@ pub fn class_path(words: &RunWords) -> Result<String, AllocError>
     path.push_str(words.name.as_str())?;
     path.push_str(".class")?;
     Ok(path)
-}
-
-#[cfg(test)]
-mod tests {
-    use super::{Command, Share, class_path, read_words};
-    use std::test::Fail;
-
-    // A folder and a main class, and the path of the file where they are a request.
-    const CASES: [(&str, &str, &str); 18] = [
-        ("app", "Main", "app/Main.class"),
-        ("a b/c", "x.y_1.Z$", "a b/c/x/y_1/Z$.class"),
-        ("**", "A", "**/A.class"),
-        ("jar", "9", "jar/9.class"),
-        ("a.jar/", "A", "a.jar//A.class"),
-        ("a.JAR", "A", "a.JAR/A.class"),
-        ("", "A", ""),
-        ("*", "A", ""),
-        ("a:b", "A", ""),
-        ("a.jar", "A", ""),
-        (".zip", "A", ""),
-        ("app", "", ""),
-        ("app", ".A", ""),
-        ("app", "A.", ""),
-        ("app", "a..B", ""),
-        ("app", "a/B", ""),
-        ("app", "a-B", ""),
-        ("app", "\u{e9}", ""),
-    ];
-
-    fn words_of(rt: &HostRuntime, words: &[&str]) -> Result<Vec<String>, Fail> {
-        let mut all = Vec::new(rt.alloc());
-        for word in words {
-            all.push(String::from_str(rt.alloc(), word)?)?;
-        }
-        Ok(all)
-    }
-
-    // The words of a line, which are separated by spaces.
-    fn words_in(rt: &HostRuntime, line: &str) -> Result<Vec<String>, Fail> {
-        let mut all = Vec::new(rt.alloc());
-        for word in line.split(' ') {
-            all.push(String::from_str(rt.alloc(), word)?)?;
-        }
-        Ok(all)
-    }
-
-    // What words ask for, as a text: empty where it is nothing.
-    fn told(rt: &HostRuntime, words: &[String]) -> Result<String, Fail> {
-        let alloc = rt.alloc();
-        Ok(match read_words(alloc, words)? {
-            None => String::new(alloc),
-            Some(Command::Run(run)) => {
-                let path = class_path(&run)?;
-                let share = match run.share {
-                    Share::Auto => "auto",
-                    Share::On => "on",
-                };
-                let archive = run.archive.as_deref().unwrap_or("-");
-                format!(in alloc; "run {path} {share} {archive} {}", run.steps)?
-            }
-            Some(Command::Dump(dump)) => {
-                format!(in alloc; "dump {} {} {}", dump.folder, dump.archive, dump.list)?
-            }
-            Some(Command::Asm(asm)) => format!(in alloc; "asm {} {}", asm.text, asm.folder)?,
-        })
-    }
-
-    #[test]
-    fn folders_and_main_classes(rt: HostRuntime) -> Result<(), Fail> {
-        for (folder, main, path) in CASES {
-            let words = words_of(&rt, &["-cp", folder, main])?;
-            match read_words(rt.alloc(), &words)? {
-                Some(Command::Run(run)) => assert_eq!(rt; class_path(&run)?.as_str(), path),
-                Some(Command::Dump(_dump)) => assert!(rt; false),
-                Some(Command::Asm(_asm)) => assert!(rt; false),
-                None => assert_eq!(rt; path, "", "at {folder} {main}"),
-            }
-        }
-        Ok(())
-    }
-
-    // Words, and what they ask for.
-    static LINES: &str = "\
--cp app Main = run app/Main.class auto - 1000000000
--cp app --steps=7 Main = run app/Main.class auto - 7
---steps=0x10 -cp app Main = run app/Main.class auto - 16
--Xshare:auto -cp app Main = run app/Main.class auto - 1000000000
--Xshare:on -cp app Main = run app/Main.class on - 1000000000
--cp app -Xshare:on Main = run app/Main.class on - 1000000000
--XX:SharedArchiveFile=a.jsa -cp app p.Main = run app/p/Main.class auto a.jsa 1000000000
--cp app -XX:SharedArchiveFile=a.jsa Main = run app/Main.class auto a.jsa 1000000000
---steps=1 -XX:SharedArchiveFile=a -Xshare:on -cp b C = run b/C.class on a 1
--Xshare:on -cp b --steps=1 -XX:SharedArchiveFile=a C = run b/C.class on a 1
--XX:SharedArchiveFile=.classes -cp -cp C = run -cp/C.class auto .classes 1000000000
--XX:SharedArchiveFile=a.CLASS -cp b C = run b/C.class auto a.CLASS 1000000000
--Xshare:dump -XX:SharedClassListFile=l -XX:SharedArchiveFile=a -cp d = dump d a l
--cp d -XX:SharedArchiveFile=a -XX:SharedClassListFile=l -Xshare:dump = dump d a l
--XX:SharedClassListFile=l -cp d -Xshare:dump -XX:SharedArchiveFile=a = dump d a l
--XX:SharedArchiveFile=a -Xshare:dump -cp d -XX:SharedClassListFile=a = dump d a a
---asm a.txt classes = asm a.txt classes
---asm --asm -cp = asm --asm -cp
---asm a:b.class x.jar = asm a:b.class x.jar
---asm =
---asm a.txt =
---asm a.txt classes x =
---asm  classes =
---asm a.txt  =
---ASM a.txt classes =
---asm=a.txt classes x =
--cp app --asm a.txt classes =
---asm a.txt -cp app =
--cp =
-Main =
--cp app =
--classpath app Main =
--cp app Main x =
--cp app -cp app Main =
--cp app -cp =
---steps=1 --steps=1 -cp app Main =
--Xshare:auto -Xshare:auto -cp app Main =
--Xshare:auto -Xshare:on -cp app Main =
--Xshare:on -Xshare:auto -cp app Main =
--Xshare:off -cp app Main =
--Xshare:dump -cp app Main =
--Xshare -cp app Main =
--XX:SharedArchiveFile=a -XX:SharedArchiveFile=a -cp app Main =
--XX:SharedArchiveFile=s:d -cp app Main =
--XX:SharedArchiveFile= -cp app Main =
--XX:SharedArchiveFile=a.class -cp app Main =
--XX:SharedClassListFile=l -cp app Main =
--cp app Main --steps=1 =
--cp app Main -Xshare:on =
--cp app --steps Main =
--cp app --steps= Main =
--cp app --steps=18446744073709551616 Main =
--Xshare:dump -XX:SharedClassListFile=l -XX:SharedArchiveFile=a -cp d Main =
--Xshare:dump -XX:SharedClassListFile=l -XX:SharedArchiveFile=a -cp d --steps=1 =
--Xshare:dump -XX:SharedClassListFile=l -XX:SharedArchiveFile=a -cp d -Xshare:dump =
--Xshare:dump -XX:SharedClassListFile=l -XX:SharedArchiveFile=a -cp d -cp d =
--Xshare:dump -XX:SharedClassListFile=l -XX:SharedClassListFile=l -XX:SharedArchiveFile=a -cp d =
--Xshare:dump -XX:SharedArchiveFile=a -XX:SharedClassListFile=l -XX:SharedArchiveFile=a -cp d =
--XX:SharedClassListFile=l -XX:SharedArchiveFile=a -cp d =
--Xshare:on -XX:SharedClassListFile=l -XX:SharedArchiveFile=a -cp d =
--Xshare:dump -XX:SharedArchiveFile=a -cp d =
--Xshare:dump -XX:SharedClassListFile=l -cp d =
--Xshare:dump -XX:SharedClassListFile=l -XX:SharedArchiveFile=a =
--Xshare:dump -XX:SharedClassListFile=l.class -XX:SharedArchiveFile=a -cp d =
--Xshare:dump -XX:SharedClassListFile= -XX:SharedArchiveFile=a -cp d =
--Xshare:dump -XX:SharedClassListFile=l -XX:SharedArchiveFile=s:d -cp d =
--Xshare:dump -XX:SharedClassListFile=l -XX:SharedArchiveFile=.class -cp d =
--Xshare:dump -XX:SharedClassListFile=l -XX:SharedArchiveFile=a -cp d:e =";
-
-    #[test]
-    fn words_and_what_they_ask_for(rt: HostRuntime) -> Result<(), Fail> {
-        for line in LINES.lines() {
-            let Some((words, asked)) = line.split_once(" =") else {
-                return Err(Fail::from("no line"));
-            };
-            let words = words_in(&rt, words)?;
-            let told = told(&rt, &words)?;
-            assert_eq!(rt; told.as_str(), asked.trim(), "at {line}");
-        }
-        Ok(())
-    }
-
-    #[test]
-    fn no_words_are_no_request(rt: HostRuntime) -> Result<(), Fail> {
-        let none = words_of(&rt, &[])?;
-        assert_eq!(rt; told(&rt, &none)?.as_str(), "");
-        Ok(())
-    }
 }

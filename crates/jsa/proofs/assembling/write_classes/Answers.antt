@@ -1,7 +1,7 @@
 use Rattle.std.proofs.Common.{◌∙◌, ◌-◌, ℕ, length, take, drop, subst}
 use Rattle.std.specs.Prelude.{Ok, Err}
 use Rattle.jsa.specs.Stores.{contents_told}
-use Rattle.jsa.specs.Assembles.{files_of}
+use Rattle.boot_library.specs.ClassFiles.{files_of}
 use Rattle.jsa.specs.Steps.{WritesFiles}
 use Rattle.jsa.proofs.Options.{first_of}
 use Rattle.jsa.proofs.Assembles.{turned, stopped, none_left}

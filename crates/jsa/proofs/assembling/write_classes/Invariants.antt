@@ -3,7 +3,7 @@ use Rattle.std.specs.Prelude.{Result}
 use Rattle.jsa_files.specs.Store.{Contents}
 use Rattle.jsa.specs.declared.assembling.ClassFault.{ClassFault}
 use Rattle.jsa.specs.Stores.{contents_told, reads_told}
-use Rattle.jsa.specs.Assembles.{files_of}
+use Rattle.boot_library.specs.ClassFiles.{files_of}
 use Rattle.jsa.specs.Steps.{WritesFiles}
 use Rattle.jsa.proofs.assembling.write_classes.Given as goal
 

@@ -4,7 +4,8 @@ use Rattle.class_asm.specs.Assembly.{assembled}
 use Rattle.jsa.specs.declared.ended.Ended.{Ended}
 use Rattle.jsa.specs.Stores.{contents_told}
 use Rattle.jsa.specs.Requests.{asm_view}
-use Rattle.jsa.specs.Assembles.{AsmAnswers, files_of}
+use Rattle.jsa.specs.Assembles.{AsmAnswers}
+use Rattle.boot_library.specs.ClassFiles.{files_of}
 use Rattle.jsa.specs.Steps.{WritesFiles}
 use Rattle.jsa.proofs.Assembles.{asm_written}
 use Rattle.jsa.proofs.assembling.write_text.Goals as goal

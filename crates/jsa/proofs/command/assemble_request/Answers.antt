@@ -1,6 +1,6 @@
 use Rattle.std.proofs.Common.{ℕ, Some, refl}
 use Rattle.jsa.specs.Stores.{contents_told, reads_told}
-use Rattle.jsa.specs.Words.{Asm}
+use Rattle.jsa.specs.Grammar.{Asm}
 use Rattle.jsa.specs.Requests.{asm_view}
 use Rattle.jsa.specs.Command.{RequestAnswers, CountsFor}
 use Rattle.jsa.proofs.Tells.{told, could_front}

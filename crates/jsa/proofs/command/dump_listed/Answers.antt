@@ -1,6 +1,6 @@
 use Rattle.std.proofs.Common.{sym, subst, ℕ, List, Some}
 use Rattle.jsa.specs.Stores.{contents_told}
-use Rattle.jsa.specs.Words.{Dump}
+use Rattle.jsa.specs.Grammar.{Dump}
 use Rattle.jsa.specs.Requests.{dump_view}
 use Rattle.jsa.specs.Dumps.{DumpAnswers}
 use Rattle.jsa.specs.Command.{RequestAnswers, CountsFor}

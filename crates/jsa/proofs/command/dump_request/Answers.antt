@@ -1,7 +1,7 @@
 use Rattle.std.proofs.Common.{subst, ap, ℕ, Option, Some}
 use Rattle.jsa_files.specs.Store.{Contents}
 use Rattle.jsa.specs.Stores.{contents_told}
-use Rattle.jsa.specs.Words.{Dump}
+use Rattle.jsa.specs.Grammar.{Dump}
 use Rattle.jsa.specs.Requests.{dump_view}
 use Rattle.jsa.specs.Dumps.{DumpAnswers}
 use Rattle.jsa.specs.Steps.{texts_of}

@@ -1,5 +1,5 @@
 use Rattle.std.proofs.Common.{Some, inl, inr, refl}
-use Rattle.jsa.specs.Words.{Run}
+use Rattle.jsa.specs.Grammar.{Run}
 use Rattle.jsa.specs.Requests.{run_view}
 use Rattle.jsa.specs.Command.{RequestAnswers}
 use Rattle.jsa.proofs.Tells.{told}
