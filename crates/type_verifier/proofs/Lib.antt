@@ -1,0 +1,14 @@
+pub mod Asked
+pub mod Deepest
+pub mod FitLoops
+pub mod InOrder
+pub mod Invoked
+pub mod Moved
+pub mod News
+pub mod Numbering
+pub mod Overriding
+pub mod Parameters
+pub mod Progress
+pub mod Stepping
+pub mod Switches
+pub mod Walks

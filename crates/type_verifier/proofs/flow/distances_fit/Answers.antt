@@ -1,0 +1,28 @@
+use Rattle.std.proofs.Common.{rules, w32, FitsSigned}
+use Rattle.std.proofs.lemmas.Int.{to_z-of_z}
+use Rattle.type_verifier.specs.Asking.{each}
+use Rattle.type_verifier.specs.Flow.{target_fits, distances}
+use Rattle.type_verifier.proofs.Asked.{did_exit}
+use Rattle.type_verifier.proofs.Switches.{distances_more, distances_done, one_on, one_stop, all_done}
+use Rattle.type_verifier.proofs.flow.distances_fit.Goals as goal
+
+pub returns-in_err-target_fits : goal.returns-in_err-target_fits
+returns-in_err-target_fits c =
+    let check = target_fits c.args.declared.now c.args.place c.args.f.now in
+    let fits : FitsSigned w32 c.in-Some.distance = search rules in
+    did_exit (each check (distances c.args.bytes.now)) c.args.asks.now c.target_fits.new.asks c.from_residual.result c.in_err-target_fits.field-0.0 tt c.from_residual.ensures.1
+    (one_stop check (each check (distances c.args.bytes.now)) c.args.asks.now c.loop-distance.asks (Unit {0}) (Unit {0}) (distances c.loop-distance.rest.now) (distances c.in-Some.more.now) c.in-Some.distance _ c.target_fits.new.asks c.in_err-target_fits.field-0.0
+    (distances_more c.loop-distance.rest.now c.in-Some.more.now c.in-Some.distance c.in-Some.ensures) (to_z-of_z w32 c.in-Some.distance fits) c.loop-distance.invariant c.in_err-target_fits.ensures)
+
+pub loop-distance-preserved : goal.loop-distance-preserved
+loop-distance-preserved c =
+    let check = target_fits c.args.declared.now c.args.place c.args.f.now in
+    let fits : FitsSigned w32 c.in-Some.distance = search rules in
+    one_on check (each check (distances c.args.bytes.now)) c.args.asks.now c.loop-distance.asks (distances c.loop-distance.rest.now) (distances c.in-Some.more.now) c.in-Some.distance _ c.target_fits.new.asks c.in_ok-target_fits.field-0
+    (distances_more c.loop-distance.rest.now c.in-Some.more.now c.in-Some.distance c.in-Some.ensures) (to_z-of_z w32 c.in-Some.distance fits) c.loop-distance.invariant c.in_ok-target_fits.ensures
+
+pub returns : goal.returns
+returns c =
+    let check = target_fits c.args.declared.now c.args.place c.args.f.now in
+    let u : Unit {0} = tt in
+    all_done check (each check (distances c.args.bytes.now)) c.args.asks.now c.loop-distance.asks (distances c.loop-distance.rest.now) u (distances_done c.loop-distance.rest.now c.in_default.ensures) c.loop-distance.invariant
