@@ -8,8 +8,8 @@ use Rattle.std.proofs.lemmas.List.Quantifiers.{position-Some}
 use Rattle.std.proofs.Math.Seq.{take-append_seam}
 use Rattle.std.proofs.Math.ListN.{length-replicate}
 use Rattle.std.proofs.lemmas.List.{drop_at}
-use Rattle.jsa_base.specs.Reading.{◌>>=◌}
-use Rattle.jsa_base.proofs.Codecs.{bind_some}
+use Rattle.jsa_names.specs.Binding.{◌>>=◌}
+use Rattle.jsa_names.proofs.Bound.{bind_some}
 use Rattle.jsa_names.specs.Names.{is_plain, is_segment, is_class_name}
 use Rattle.jsa_names.specs.Types.{JavaType, Byte, Char, Double, Float, Int, Long, Short, Boolean, Class, Array, base_type, is_semicolon, class_type_of, element_type_of, is_no_bracket, field_type_of, spelling, FitsElement, Fits}
 

@@ -1,3 +1,4 @@
+pub mod Bound
 pub mod Forms
 pub mod Runs
 pub mod NameTexts

@@ -8,8 +8,8 @@ use Rattle.std.proofs.lemmas.List.{take-append-drop, length-append, drop_at}
 use Rattle.std.proofs.lemmas.Slice.Eq.{bytes_eq-Decides}
 use Rattle.std.proofs.Math.Seq.{take-append_seam}
 use Rattle.std.proofs.Math.ListN.{length-replicate}
-use Rattle.jsa_base.specs.Reading.{◌>>=◌}
-use Rattle.jsa_base.proofs.Codecs.{bind_some}
+use Rattle.jsa_names.specs.Binding.{◌>>=◌}
+use Rattle.jsa_names.proofs.Bound.{bind_some}
 use Rattle.jsa_names.specs.Types.{JavaType, Byte, Char, Double, Float, Int, Long, Short, Boolean, Class, Array, JavaMethod, base_type, is_semicolon, element_type_of, is_no_bracket, field_type_of, type_length, type_at, more_types, types_at, front_types, slots_of, few_types, result_of, behind_byte, method_type_of, spelling, FitsElement, Fits, result_spelling, FitsResult, method_spelling, FitsMethod}
 use Rattle.jsa_names.proofs.Runs.{goes, stops}
 use Rattle.jsa_names.proofs.FieldSpelled.{both, position_is, no_semicolons, depth_is, field_again, field_takes}

@@ -3,7 +3,7 @@ use Rattle.std.proofs.Common.{◌≡◌, ℕ, true, false, cond, not, Option, So
 use Rattle.std.specs.List.{list_any}
 use Rattle.std.specs.Str.{encode_utf8_all}
 use Rattle.std.specs.Char.Utf16.{utf16_chars, utf16_lossy_chars, has_unpaired_surrogate}
-use Rattle.jsa_base.specs.Reading.{◌>>=◌}
+use Rattle.jsa_names.specs.Binding.{◌>>=◌}
 use Rattle.jsa_names.specs.Texts.{units_of, is_mutf8, before}
 use Rattle.jsa_names.specs.Paths.{all_some, characters_of, is_path_name, text_of}
 

@@ -2,7 +2,7 @@
 use Rattle.std.proofs.Common.{◌≡◌, ℕ, zero, suc, ◌+◌, ◌-◌, ◌<◌, ◌≤◌, Bool, true, false, cond, Option, Some, None, List, [], ◌∷◌, length, drop, take, position, slice_get, refl, sym, ap, subst, ◌∙◌, arith}
 use Rattle.std.proofs.lemmas.List.{length-drop}
 use Rattle.std.proofs.lemmas.Bool.{le-leb, lt-leb}
-use Rattle.jsa_base.specs.Reading.{◌>>=◌}
+use Rattle.jsa_names.specs.Binding.{◌>>=◌}
 use Rattle.jsa_names.specs.Types.{JavaType, is_semicolon, is_no_bracket, begins_class, field_type_of, type_length, type_at, more_types, types_at, front_types, slots_of_type, slots_of, few_types}
 
 abbrev Positive : Option ℕ → Type 0

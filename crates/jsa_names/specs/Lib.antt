@@ -1,3 +1,4 @@
+pub mod Binding
 pub mod Texts
 pub mod Names
 pub mod Types

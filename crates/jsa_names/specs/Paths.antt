@@ -3,7 +3,7 @@ use Rattle.std.specs.Prelude.{ℕ, List, [], ◌∷◌, ◌++◌, Option, Some, 
 use Rattle.std.specs.List.{list_any}
 use Rattle.std.specs.Str.{encode_utf8_all}
 use Rattle.std.specs.Char.Utf16.{utf16_chars}
-use Rattle.jsa_base.specs.Reading.{◌>>=◌}
+use Rattle.jsa_names.specs.Binding.{◌>>=◌}
 use Rattle.jsa_names.specs.Texts.{units_of, before}
 use Rattle.jsa_names.specs.Names.{is_class_name}
 

@@ -3,7 +3,7 @@ use Rattle.std.specs.Prelude.{◌≡◌, ℕ, zero, suc, ◌+◌, ◌≤◌, Lis
 use Rattle.std.specs.List.{flat_map, AllByRecursion}
 use Rattle.std.specs.Option.{option_map}
 use Rattle.std.specs.Str.{bytes_eq}
-use Rattle.jsa_base.specs.Reading.{◌>>=◌}
+use Rattle.jsa_names.specs.Binding.{◌>>=◌}
 use Rattle.jsa_names.specs.Names.{is_class_name}
 use Rattle.jsa_names.specs.declared.types.FieldType.{FieldType}
 use Rattle.jsa_names.specs.declared.types.FieldType.TheVariants as code
