@@ -1,6 +1,5 @@
 // Whole commands over archives: dumps, and runs from what they wrote.
-use crate::command::run_command;
-use crate::ended::status;
+use jsa_command::{run_command, status};
 use crate::test_classes::PUTS_42_AND_MINUS_1;
 use crate::tests::{DIVIDES, PUTS_A_SUM, SHIFTS};
 use jsa_files::{Files, MAX_FILE, MemoryFiles, MemorySink};

@@ -1,7 +1,7 @@
 // Whole runs over homes, and the making of homes.
 use crate::archive_tests::{bytes_at, does, does_failing, found_at, reads_of};
 use crate::asm_tests::size_at;
-use crate::ended::{Ended, status};
+use jsa_command::{Ended, status};
 use crate::tests::{DIVIDES, PUTS_A_SUM, SHIFTS, run_words};
 use jsa_files::{Files, MemoryFiles};
 use std::alloc::Global;

@@ -1,40 +1,27 @@
-//! Runs a main class over a home of boot classes or out of an archive, dumps classes into an archive, assembles texts into class
-//! files, and makes homes.
+//! The program: it hands the words of the process to `run_command`, and ends with the status of its answer.
 #![tactic(auto)]
 
-mod archive_run;
 #[cfg(test)]
 mod archive_tests;
 #[cfg(test)]
 mod asm_tests;
-mod assembling;
-mod class_list;
-mod command;
-mod dump;
-mod ended;
-mod faults;
-mod file_run;
-mod folder;
-mod gathering;
+#[cfg(test)]
+mod class_list_tests;
 #[cfg(test)]
 mod hello_tests;
-mod home;
 #[cfg(test)]
 mod home_tests;
-mod home_words;
-mod lines;
+#[cfg(test)]
+mod lines_tests;
 #[cfg(test)]
 mod test_classes;
 #[cfg(test)]
 mod tests;
-mod words;
 #[cfg(test)]
 mod words_tests;
 
-use command::run_command;
-use ended::{Ended, status};
+use jsa_command::{Ended, run_command, status, tell};
 use jsa_files::{DiskFiles, StdSink};
-use lines::tell;
 use std::alloc::AllocError;
 use std::env;
 use std::io::ErrorKind;

@@ -1,6 +1,5 @@
 // Whole commands over a store and sinks in memory.
-use crate::command::run_command;
-use crate::ended::{Ended, status};
+use jsa_command::{Ended, run_command, status};
 use crate::test_classes::{ACCEPTED, PUTS_42_AND_MINUS_1, REFUSED};
 use jsa_base::Quantity;
 use jsa_files::{MAX_FILE, MemoryFiles, MemorySink};

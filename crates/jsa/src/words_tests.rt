@@ -1,5 +1,5 @@
 // The words of the commands, and what they ask for.
-use crate::words::{Command, Share, class_path, read_words};
+use jsa_command::{Command, Share, class_path, read_words};
 use home_run::HomeRun;
 use std::test::Fail;
 
