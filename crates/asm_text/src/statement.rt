@@ -3,7 +3,7 @@
 use sqlite_items::Items;
 
 /// What a line says.
-#[derive(Debug, Drop)]
+#[derive(Drop)]
 pub enum Statement {
     /// Nothing: the line is empty or a comment.
     Blank,
@@ -123,7 +123,7 @@ pub struct MemberName {
 
 /// An instruction whose targets are labels and whose constants are not in a pool yet. The first field of each variant is
 /// the opcode byte (JVMS 6.5).
-#[derive(Debug, Drop)]
+#[derive(Drop)]
 pub enum Operation {
     /// No operand.
     Plain(u8),

@@ -16,7 +16,7 @@ use std::marker::Model;
 use std::mem::replace;
 
 /// What a class file was read as.
-#[derive(Debug, Drop)]
+#[derive(Drop)]
 pub(crate) enum Held {
     /// As this tree, whose class isn't loaded.
     Tree(ClassTree),
@@ -29,7 +29,7 @@ pub(crate) enum Held {
 }
 
 /// A class file that was read.
-#[derive(Debug, Drop)]
+#[derive(Drop)]
 pub(crate) struct Reading {
     /// The name that it was found for.
     pub(crate) name: Items<u8>,
@@ -66,7 +66,7 @@ fn note(
 /// its own.
 ///
 /// Contracts see them as their list.
-#[derive(Debug, Drop)]
+#[derive(Drop)]
 pub(crate) struct Readings {
     alloc: Global,
     list: Vec<Reading>,

@@ -9,7 +9,7 @@ use sqlite_items::{Items, at};
 use std::marker::Model;
 
 /// An entry of the constant pool. A `u16` is an index of the pool, unless its line says otherwise.
-#[derive(Debug, Drop)]
+#[derive(Drop)]
 pub enum PoolEntry {
     /// Nothing: the place of index 0, and of the second index of a Long or a Double (JVMS 4.1, 4.4.5).
     Unusable,
@@ -39,7 +39,7 @@ pub enum PoolEntry {
 }
 
 /// A constant pool. Contracts see it as the list of its entries, from index 0 on.
-#[derive(Debug, Drop)]
+#[derive(Drop)]
 pub struct Pool {
     entries: Items<PoolEntry>,
 }

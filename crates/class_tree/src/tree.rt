@@ -3,7 +3,7 @@ use crate::constant_pool::Pool;
 use sqlite_items::Items;
 
 /// A class or an interface (JVMS 4.1).
-#[derive(Debug, Drop)]
+#[derive(Drop)]
 pub struct ClassTree {
     /// The major version.
     pub major: u16,

@@ -5,7 +5,7 @@ use sqlite_items::Items;
 
 /// A loaded class: its class file, and what is looked up of it once, when it is loaded. The numbers of classes are their
 /// places in the load order.
-#[derive(Debug, Drop)]
+#[derive(Drop)]
 pub(crate) struct HeldClass {
     pub(crate) loader: Loader,
     /// The number of the folder that its file is in.

@@ -91,7 +91,7 @@ fn note(places: &mut IndexMap<Vec<u8>, u16>, key: Vec<u8>, index: u16) -> Result
 /// 65,535 indices (JVMS 4.1). What was put in before that stays, as it does where memory runs out.
 ///
 /// Contracts see it as the list of its entries, from index 0 on.
-#[derive(Debug, Drop)]
+#[derive(Drop)]
 pub struct PoolBuilder {
     entries: Vec<PoolEntry>,
     // The index of the first entry that is written as these bytes.
