@@ -37,7 +37,7 @@ pub struct MethodFact<'a> {
 }
 
 /// An entry of the constant pool of a loaded class, as `PoolName` says it.
-#[derive(Clone, Copy, Debug)]
+#[derive(Clone, Copy)]
 pub enum PoolFact<'a> {
     Unusable,
     Utf8(&'a [u8]),

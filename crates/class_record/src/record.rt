@@ -12,7 +12,7 @@ pub struct Ask {
 }
 
 /// A class as it is laid out, with names in place of the classes, fields and methods that it refers to.
-#[derive(Debug, Drop)]
+#[derive(Drop)]
 pub struct ClassRecord {
     /// Its internal name (JVMS 4.2.1).
     pub name: Items<u8>,
@@ -46,7 +46,7 @@ pub struct ClassRecord {
 }
 
 /// An entry of a constant pool (JVMS 4.4) with its texts. A `u16` is an index of the pool, unless its line says otherwise.
-#[derive(Debug, Drop)]
+#[derive(Drop)]
 pub enum PoolName {
     /// Nothing: the place of index 0, and of the second index of a Long or a Double.
     Unusable,
