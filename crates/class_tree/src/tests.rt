@@ -1,10 +1,25 @@
 // What no contract says: that a pool is read where memory suffices. And pools on both sides of each rule.
 use crate::test_pools::POOLS;
-use crate::{FormatFault, Pool, PoolEntry, one_pool, read_pool};
+use crate::{FormatFault, PoolEntry, one_pool, read_pool};
 use jsa_base::Cursor;
-use std::alloc::Global;
-use std::process::Abort;
+use std::alloc::{AllocError, Global};
 use std::test::Fail;
+
+/// Tells a row that is wrong, with what was said.
+pub fn tell_wrong(
+    wrong: &mut String,
+    row: &str,
+    said: &str,
+    wanted: &str,
+) -> Result<(), AllocError> {
+    if said != wanted {
+        wrong.push_str(row)?;
+        wrong.push_str(" but ")?;
+        wrong.push_str(said)?;
+        wrong.push_str("\n")?;
+    }
+    Ok(())
+}
 
 // Entries of each kind, and behind the pool two bytes.
 const EACH_KIND: [u8; 97] = [
@@ -14,12 +29,19 @@ const EACH_KIND: [u8; 97] = [
     16, 0, 8, 18, 1, 2, 0, 5, 170, 187,
 ];
 
-fn pool_of(alloc: Global, bytes: &[u8]) -> Result<Pool, FormatFault> {
+// What reading a pool answers.
+fn answer_of(alloc: Global, bytes: &[u8]) -> &'static str {
     let mut cursor = Cursor::new(bytes);
-    read_pool(alloc, &mut cursor)
+    match read_pool(alloc, &mut cursor) {
+        Ok(_) => "yes",
+        Err(FormatFault::NotClass) => "no",
+        Err(FormatFault::Version(_, _)) => "version",
+        Err(FormatFault::Memory) => "memory",
+    }
 }
 
 // The entries by their lines: the tag, 0 for an unusable index, then the length of the text, the number or the indices.
+// Last stands how many bytes are left.
 static KINDS: &str = "0 0 0
 1 1 0
 7 1 0
@@ -42,7 +64,7 @@ static KINDS: &str = "0 0 0
 15 6 10
 16 8 0
 18 258 5
-";
+2";
 
 // The numbers of an entry's line.
 fn numbers_of(entry: &PoolEntry) -> (u8, u64, u16) {
@@ -65,87 +87,120 @@ fn numbers_of(entry: &PoolEntry) -> (u8, u64, u16) {
     }
 }
 
+fn push_lines(
+    alloc: Global,
+    lines: &mut String,
+    entries: &[PoolEntry],
+    left: usize,
+) -> Result<(), AllocError> {
+    for entry in entries {
+        let (tag, first, second) = numbers_of(entry);
+        let line = format!(in alloc; "{tag} {first} {second}\n")?;
+        lines.push_str(line.as_str())?;
+    }
+    lines.push_str(format!(in alloc; "{left}")?.as_str())
+}
+
+fn push_pool(alloc: Global, lines: &mut String, bytes: &[u8]) -> Result<(), AllocError> {
+    let mut cursor = Cursor::new(bytes);
+    match read_pool(alloc, &mut cursor) {
+        Ok(pool) => push_lines(alloc, lines, pool.entries(), cursor.left()),
+        Err(_) => lines.push_str("no pool"),
+    }
+}
+
 #[test]
 fn each_kind_of_entry_is_read(rt: HostRuntime) -> Result<(), Fail> {
-    let alloc = rt.alloc();
-    let mut cursor = Cursor::new(&EACH_KIND);
-    let pool = read_pool(alloc, &mut cursor)?;
-    assert_eq!(rt; cursor.left(), 2);
-    let mut lines = String::new(alloc);
-    for entry in pool.entries() {
-        let (tag, first, second) = numbers_of(entry);
-        lines.push_str(&format!(in alloc; "{tag} {first} {second}\n")?)?;
-    }
+    let mut lines = String::new(rt.alloc());
+    push_pool(rt.alloc(), &mut lines, &EACH_KIND)?;
     assert_eq!(rt; lines.as_str(), KINDS);
     one_pool();
     Ok(())
 }
 
+// The sizes of the fronts that aren't refused.
+fn wrong_fronts(alloc: Global) -> Result<String, AllocError> {
+    let mut wrong = String::new(alloc);
+    for size in 0..EACH_KIND.len() - 2 {
+        let row = format!(in alloc; "{size}")?;
+        let said = answer_of(alloc, &EACH_KIND[..size]);
+        tell_wrong(&mut wrong, row.as_str(), said, "no")?;
+    }
+    Ok(wrong)
+}
+
 #[test]
 fn a_cut_pool_is_refused(rt: HostRuntime) -> Result<(), Fail> {
-    for size in 0..EACH_KIND.len() - 2 {
-        let cut = pool_of(rt.alloc(), &EACH_KIND[..size]);
-        assert_eq!(rt; cut.err(), Some(FormatFault::NotClass));
-    }
+    assert_eq!(rt; wrong_fronts(rt.alloc())?.as_str(), "");
     Ok(())
 }
 
-// An entry of a text, whose parts stand between bars.
-fn push_text(alloc: Global, bytes: &mut Vec<u8>, parts: &str) -> Result<(), Fail> {
-    let mut text = Vec::new(alloc);
+// A count or a byte.
+fn number(word: &str) -> u16 {
+    word.parse::<u16>().unwrap_or(u16::MAX)
+}
+
+// The parts of a text stand between bars, a part `N*T` being T so many times.
+fn push_parts(text: &mut Vec<u8>, parts: &str) -> Result<(), AllocError> {
     for part in parts.split('|') {
         let (count, part) = part.split_once('*').unwrap_or(("1", part));
-        for _ in 0..count.parse::<u16>()? {
+        for _ in 0..number(count) {
             text.extend_from_slice(part.as_bytes())?;
         }
     }
-    let size = u16::try_from(text.len())?;
+    Ok(())
+}
+
+fn push_text(bytes: &mut Vec<u8>, text: &[u8]) -> Result<(), AllocError> {
+    let size = u16::try_from(text.len()).unwrap_or(u16::MAX);
     bytes.push(1)?;
     bytes.extend_from_slice(&size.to_be_bytes())?;
-    bytes.extend_from_slice(&text)?;
+    bytes.extend_from_slice(text)
+}
+
+fn push_word(alloc: Global, bytes: &mut Vec<u8>, word: &str) -> Result<(), AllocError> {
+    let Some(parts) = word.strip_prefix("utf8:") else {
+        return bytes.extend_from_slice(&number(word).to_be_bytes()[1..]);
+    };
+    let mut text = Vec::new(alloc);
+    push_parts(&mut text, parts)?;
+    push_text(bytes, &text)
+}
+
+// A count and the words behind it.
+fn push_words(alloc: Global, bytes: &mut Vec<u8>, words: &str) -> Result<(), AllocError> {
+    let (count, words) = words.split_once(' ').unwrap_or((words, ""));
+    bytes.extend_from_slice(&number(count).to_be_bytes())?;
+    for word in words.split_whitespace() {
+        push_word(alloc, bytes, word)?;
+    }
     Ok(())
 }
 
-// The bytes of a count and the words behind it.
-fn bytes_of(alloc: Global, words: &str) -> Result<Vec<u8>, Fail> {
+fn try_row(alloc: Global, wrong: &mut String, row: &str) -> Result<(), AllocError> {
+    let (shown, words) = row.split_once("; ").unwrap_or((row, ""));
+    let (wanted, _) = shown.split_once(' ').unwrap_or((row, ""));
     let mut bytes = Vec::new(alloc);
-    let mut words = words.split(' ');
-    let count = words.next().ok_or("no count")?.parse::<u16>()?;
-    bytes.extend_from_slice(&count.to_be_bytes())?;
-    for word in words {
-        match word.strip_prefix("utf8:") {
-            Some(parts) => push_text(alloc, &mut bytes, parts)?,
-            None => bytes.push(word.parse::<u8>()?)?,
-        }
-    }
-    Ok(bytes)
+    push_words(alloc, &mut bytes, words)?;
+    tell_wrong(wrong, row, answer_of(alloc, &bytes), wanted)
 }
 
-fn line_holds(rt: &impl Abort, alloc: Global, line: &str) -> Result<(), Fail> {
-    let (shown, words) = line.split_once("; ").ok_or("no bytes")?;
-    let bytes = bytes_of(alloc, words)?;
-    let fault = pool_of(alloc, &bytes).err();
-    if shown.starts_with("yes ") {
-        assert_eq!(rt; fault, None, "{shown}");
-    } else {
-        assert_eq!(rt; fault, Some(FormatFault::NotClass), "{shown}");
+fn wrong_rows(alloc: Global, rows: &str) -> Result<String, AllocError> {
+    let mut wrong = String::new(alloc);
+    for row in rows.lines() {
+        try_row(alloc, &mut wrong, row)?;
     }
-    Ok(())
+    Ok(wrong)
 }
 
 #[test]
 fn each_line_of_the_table_holds(rt: HostRuntime) -> Result<(), Fail> {
-    for line in POOLS.lines() {
-        line_holds(&rt, rt.alloc(), line)?;
-    }
+    assert_eq!(rt; wrong_rows(rt.alloc(), POOLS)?.as_str(), "");
     Ok(())
 }
 
-// Each text is looked at once, so this takes no longer than its bytes are many.
-#[test]
-fn all_entries_may_name_one_text(rt: HostRuntime) -> Result<(), Fail> {
-    let alloc = rt.alloc();
-    let mut bytes = Vec::new(alloc);
+// A text of 65,535 bytes at index 1, and so many Classes that name it.
+fn push_one_text(bytes: &mut Vec<u8>) -> Result<(), AllocError> {
     bytes.extend_from_slice(&[255, 255, 1, 255, 255])?;
     for _ in 0..65_535 {
         bytes.push(b'K')?;
@@ -153,7 +208,23 @@ fn all_entries_may_name_one_text(rt: HostRuntime) -> Result<(), Fail> {
     for _ in 0..65_533 {
         bytes.extend_from_slice(&[7, 0, 1])?;
     }
-    let pool = pool_of(alloc, &bytes)?;
-    assert_eq!(rt; pool.entries().len(), 65_535);
+    Ok(())
+}
+
+// How many entries are read, and 0 where there is no pool.
+fn count_of(alloc: Global, bytes: &[u8]) -> usize {
+    let mut cursor = Cursor::new(bytes);
+    match read_pool(alloc, &mut cursor) {
+        Ok(pool) => pool.entries().len(),
+        Err(_) => 0,
+    }
+}
+
+// Each text is looked at once, so this takes no longer than its bytes are many.
+#[test]
+fn all_entries_may_name_one_text(rt: HostRuntime) -> Result<(), Fail> {
+    let mut bytes = Vec::new(rt.alloc());
+    push_one_text(&mut bytes)?;
+    assert_eq!(rt; count_of(rt.alloc(), &bytes), 65_535);
     Ok(())
 }
