@@ -1,10 +1,60 @@
 // What no contract says: that a class is read where memory suffices. And classes on both sides of each rule.
 use crate::read_class;
 use crate::test_classes::{CHANGED, CLASSES, HELLO, POOL};
-use class_tree::{ClassTree, FormatFault, PoolEntry};
-use std::alloc::Global;
-use std::process::Abort;
+use class_tree::{ClassTree, CodeTree, FormatFault, MethodTree, PoolEntry};
+use std::alloc::{AllocError, Global};
 use std::test::Fail;
+
+/// Tells a row that is wrong, with what was said.
+pub fn tell_wrong(
+    wrong: &mut String,
+    row: &str,
+    said: &str,
+    wanted: &str,
+) -> Result<(), AllocError> {
+    if said != wanted {
+        wrong.push_str(row)?;
+        wrong.push_str(" but ")?;
+        wrong.push_str(said)?;
+        wrong.push_str("\n")?;
+    }
+    Ok(())
+}
+
+// What is read of the bytes: `yes`, `no` or the version.
+fn say(alloc: Global, said: &mut String, bytes: &[u8]) -> Result<(), AllocError> {
+    match read_class(alloc, bytes) {
+        Ok(_) => said.push_str("yes"),
+        Err(FormatFault::NotClass) => said.push_str("no"),
+        Err(FormatFault::Memory) => said.push_str("memory"),
+        Err(FormatFault::Version(minor, major)) => {
+            said.push_str(format!(in alloc; "{minor}.{major}")?.as_str())
+        }
+    }
+}
+
+fn try_class(
+    alloc: Global,
+    wrong: &mut String,
+    row: &str,
+    bytes: &[u8],
+    wanted: &str,
+) -> Result<(), AllocError> {
+    let mut said = String::new(alloc);
+    say(alloc, &mut said, bytes)?;
+    tell_wrong(wrong, row, said.as_str(), wanted)
+}
+
+// The sizes of the fronts that are something else than no class.
+fn wrong_fronts(alloc: Global, bytes: &[u8]) -> Result<String, AllocError> {
+    let mut wrong = String::new(alloc);
+    for size in 0..bytes.len() {
+        if letter_of(alloc, &bytes[..size]) != "n" {
+            wrong.push_str(format!(in alloc; "{size} ")?.as_str())?;
+        }
+    }
+    Ok(wrong)
+}
 
 // The least class: A under java/lang/Object.
 const UNIT: [u8; 53] = [
@@ -13,26 +63,59 @@ const UNIT: [u8; 53] = [
     0, 0,
 ];
 
-static UNIT_SHOWN: &str =
-    "ClassTree { major: 52, flags: 33, pool: Pool { entries: Items { items: [Unusable, Utf8(Items { items: [65] }), Class(1), Utf8(Items { items: [106, 97, 118, 97, 47, 108, 97, 110, 103, 47, 79, 98, 106, 101, 99, 116] }), Class(3)] } }, this: 2, sup: 4, interfaces: Items { items: [] }, fields: Items { items: [] }, methods: Items { items: [] } }";
+// The version, the flags, the class and its superclass, the entries of the pool, and how many interfaces, fields and
+// methods there are.
+static UNIT_SHOWN: &str = "52 33 2 4
+unusable
+utf8 A
+class 1
+utf8 java/lang/Object
+class 3
+0 (0, 0)";
 
 // ---- the least class
 
+fn push_entry(alloc: Global, shown: &mut String, entry: &PoolEntry) -> Result<(), AllocError> {
+    match entry {
+        PoolEntry::Unusable => shown.push_str("\nunusable"),
+        PoolEntry::Class(name) => shown.push_str(format!(in alloc; "\nclass {name}")?.as_str()),
+        PoolEntry::Utf8(text) => {
+            shown.push_str("\nutf8 ")?;
+            shown.push_str(str::from_utf8(text.as_slice()).unwrap_or("?"))
+        }
+        _ => shown.push_str("\nanother"),
+    }
+}
+
+fn push_tree(alloc: Global, shown: &mut String, tree: &ClassTree) -> Result<(), AllocError> {
+    let head = format!(in alloc; "{} {} {} {}", tree.major, tree.flags, tree.this, tree.sup)?;
+    shown.push_str(head.as_str())?;
+    for entry in tree.pool.entries() {
+        push_entry(alloc, shown, entry)?;
+    }
+    let members = (tree.fields.len(), tree.methods.len());
+    let counts = format!(in alloc; "\n{} {members:?}", tree.interfaces.len())?;
+    shown.push_str(counts.as_str())
+}
+
+fn push_read(alloc: Global, shown: &mut String, bytes: &[u8]) -> Result<(), AllocError> {
+    match read_class(alloc, bytes) {
+        Ok(tree) => push_tree(alloc, shown, &tree),
+        Err(_) => shown.push_str("no class"),
+    }
+}
+
 #[test]
 fn the_least_class_is_read(rt: HostRuntime) -> Result<(), Fail> {
-    let alloc = rt.alloc();
-    let tree = read_class(alloc, &UNIT)?;
-    let shown = format!(in alloc; "{tree:?}")?;
+    let mut shown = String::new(rt.alloc());
+    push_read(rt.alloc(), &mut shown, &UNIT)?;
     assert_eq!(rt; shown.as_str(), UNIT_SHOWN);
     Ok(())
 }
 
 #[test]
 fn a_cut_class_is_none(rt: HostRuntime) -> Result<(), Fail> {
-    for size in 0..UNIT.len() {
-        let cut = read_class(rt.alloc(), &UNIT[..size]);
-        assert_eq!(rt; cut.err(), Some(FormatFault::NotClass), "{size}");
-    }
+    assert_eq!(rt; wrong_fronts(rt.alloc(), &UNIT)?.as_str(), "");
     Ok(())
 }
 
@@ -40,8 +123,9 @@ fn a_cut_class_is_none(rt: HostRuntime) -> Result<(), Fail> {
 fn version_53_is_answered(rt: HostRuntime) -> Result<(), Fail> {
     let mut bytes = UNIT;
     bytes[7] = 0x35;
-    let read = read_class(rt.alloc(), &bytes);
-    assert_eq!(rt; read.err(), Some(FormatFault::Version(0, 53)));
+    let mut said = String::new(rt.alloc());
+    say(rt.alloc(), &mut said, &bytes)?;
+    assert_eq!(rt; said.as_str(), "0.53");
     Ok(())
 }
 
@@ -51,33 +135,41 @@ fn is_used(entry: &PoolEntry) -> bool {
     !matches!(entry, PoolEntry::Unusable)
 }
 
+fn push_sizes(alloc: Global, counts: &mut String, code: &CodeTree) -> Result<(), AllocError> {
+    let sizes = (code.bytes.len(), code.stack, code.locals);
+    counts.push_str(format!(in alloc; " {sizes:?}")?.as_str())
+}
+
 // The version, the indices in use, and the sizes of each method's code, stack and locals.
-fn counts_of(alloc: Global, tree: &ClassTree) -> Result<String, Fail> {
+fn push_counts(alloc: Global, counts: &mut String, tree: &ClassTree) -> Result<(), AllocError> {
     let used = tree.pool.entries().iter().filter(|e| is_used(e)).count();
-    let mut counts = format!(in alloc; "{} {used}", tree.major)?;
+    counts.push_str(format!(in alloc; "{} {used}", tree.major)?.as_str())?;
     for method in tree.methods.as_slice() {
         if let Some(code) = &method.code {
-            let sizes = (code.bytes.len(), code.stack, code.locals);
-            counts.push_str(&format!(in alloc; " {sizes:?}")?)?;
+            push_sizes(alloc, counts, code)?;
         }
     }
-    Ok(counts)
+    Ok(())
+}
+
+fn push_counts_read(alloc: Global, counts: &mut String, bytes: &[u8]) -> Result<(), AllocError> {
+    match read_class(alloc, bytes) {
+        Ok(tree) => push_counts(alloc, counts, &tree),
+        Err(_) => counts.push_str("no class"),
+    }
 }
 
 #[test]
 fn a_compiled_class_is_read(rt: HostRuntime) -> Result<(), Fail> {
-    let tree = read_class(rt.alloc(), &HELLO)?;
-    let counts = counts_of(rt.alloc(), &tree)?;
+    let mut counts = String::new(rt.alloc());
+    push_counts_read(rt.alloc(), &mut counts, &HELLO)?;
     assert_eq!(rt; counts.as_str(), "52 27 (5, 1, 1) (9, 2, 1)");
     Ok(())
 }
 
 #[test]
 fn a_cut_compiled_class_is_none(rt: HostRuntime) -> Result<(), Fail> {
-    for size in 0..HELLO.len() {
-        let cut = read_class(rt.alloc(), &HELLO[..size]);
-        assert_eq!(rt; cut.err(), Some(FormatFault::NotClass), "{size}");
-    }
+    assert_eq!(rt; wrong_fronts(rt.alloc(), &HELLO)?.as_str(), "");
     Ok(())
 }
 
@@ -101,7 +193,7 @@ fn changed(byte: u8, way: usize) -> u8 {
 }
 
 // The letters of HELLO where each byte in turn is another.
-fn letters_of(alloc: Global, way: usize) -> Result<String, Fail> {
+fn letters_of(alloc: Global, way: usize) -> Result<String, AllocError> {
     let mut letters = String::new(alloc);
     for place in 0..HELLO.len() {
         let mut bytes = HELLO;
@@ -111,63 +203,79 @@ fn letters_of(alloc: Global, way: usize) -> Result<String, Fail> {
     Ok(letters)
 }
 
+fn wrong_changes(alloc: Global, lines: &str) -> Result<String, AllocError> {
+    let mut wrong = String::new(alloc);
+    for (way, wanted) in lines.lines().enumerate() {
+        let letters = letters_of(alloc, way)?;
+        tell_wrong(&mut wrong, wanted, letters.as_str(), wanted)?;
+    }
+    Ok(wrong)
+}
+
 #[test]
 fn each_byte_of_a_compiled_class_counts(rt: HostRuntime) -> Result<(), Fail> {
-    for (way, wanted) in CHANGED.lines().enumerate() {
-        let letters = letters_of(rt.alloc(), way)?;
-        assert_eq!(rt; letters.as_str(), wanted, "{way}");
-    }
+    assert_eq!(rt; wrong_changes(rt.alloc(), CHANGED)?.as_str(), "");
     Ok(())
 }
 
 // ---- the table
 
-// The index of the entry with this name.
-fn index_of(name: &str) -> Result<u16, Fail> {
+// The index of the entry with this name, and 65,535 where there is none.
+fn index_of(name: &str) -> u16 {
     for (place, line) in POOL.lines().enumerate() {
         if line.split(' ').next() == Some(name) {
-            return Ok(u16::try_from(place + 1)?);
+            return u16::try_from(place).unwrap_or(0).saturating_add(1);
         }
     }
-    Err("no such entry".into())
+    u16::MAX
 }
 
-// An entry of a text, whose parts stand between bars.
-fn push_text(alloc: Global, bytes: &mut Vec<u8>, parts: &str) -> Result<(), Fail> {
-    let mut text = Vec::new(alloc);
+// The parts of a text stand between bars.
+fn push_parts(text: &mut Vec<u8>, parts: &str) -> Result<(), AllocError> {
     for part in parts.split('|') {
         let (count, part) = part.split_once('*').unwrap_or(("1", part));
-        for _ in 0..count.parse::<u16>()? {
+        for _ in 0..count.parse::<u16>().unwrap_or(0) {
             text.extend_from_slice(part.as_bytes())?;
         }
     }
-    bytes.push(1)?;
-    bytes.extend_from_slice(&u16::try_from(text.len())?.to_be_bytes())?;
-    bytes.extend_from_slice(&text)?;
     Ok(())
 }
 
+// An entry of a text.
+fn push_text(bytes: &mut Vec<u8>, text: &[u8]) -> Result<(), AllocError> {
+    let size = u16::try_from(text.len()).unwrap_or(u16::MAX);
+    bytes.push(1)?;
+    bytes.extend_from_slice(&size.to_be_bytes())?;
+    bytes.extend_from_slice(text)
+}
+
+fn push_text_of(alloc: Global, bytes: &mut Vec<u8>, parts: &str) -> Result<(), AllocError> {
+    let mut text = Vec::new(alloc);
+    push_parts(&mut text, parts)?;
+    push_text(bytes, &text)
+}
+
 // A number of one, two or four bytes.
-fn push_number(bytes: &mut Vec<u8>, digits: &str) -> Result<(), Fail> {
-    let number = u32::from_str_radix(digits, 16)?.to_be_bytes();
+fn push_number(bytes: &mut Vec<u8>, digits: &str) -> Result<(), AllocError> {
+    let number = u32::from_str_radix(digits, 16).unwrap_or(u32::MAX);
     match digits.len() {
-        2 => Ok(bytes.extend_from_slice(&number[3..])?),
-        4 => Ok(bytes.extend_from_slice(&number[2..])?),
-        _ => Ok(bytes.extend_from_slice(&number)?),
+        2 => bytes.extend_from_slice(&number.to_be_bytes()[3..]),
+        4 => bytes.extend_from_slice(&number.to_be_bytes()[2..]),
+        _ => bytes.extend_from_slice(&number.to_be_bytes()),
     }
 }
 
-fn push_word(alloc: Global, bytes: &mut Vec<u8>, word: &str) -> Result<(), Fail> {
+fn push_word(alloc: Global, bytes: &mut Vec<u8>, word: &str) -> Result<(), AllocError> {
     if let Some(name) = word.strip_prefix("#") {
-        return Ok(bytes.extend_from_slice(&index_of(name)?.to_be_bytes())?);
+        return bytes.extend_from_slice(&index_of(name).to_be_bytes());
     }
     match word.strip_prefix("utf8:") {
-        Some(parts) => push_text(alloc, bytes, parts),
+        Some(parts) => push_text_of(alloc, bytes, parts),
         None => push_number(bytes, word),
     }
 }
 
-fn push_words(alloc: Global, bytes: &mut Vec<u8>, words: &str) -> Result<(), Fail> {
+fn push_words(alloc: Global, bytes: &mut Vec<u8>, words: &str) -> Result<(), AllocError> {
     for word in words.split_whitespace() {
         push_word(alloc, bytes, word)?;
     }
@@ -175,51 +283,44 @@ fn push_words(alloc: Global, bytes: &mut Vec<u8>, words: &str) -> Result<(), Fai
 }
 
 // The count of the pool, which is one more than the greatest index, and its entries.
-fn push_pool(alloc: Global, bytes: &mut Vec<u8>) -> Result<(), Fail> {
-    let count = u16::try_from(POOL.lines().count() + 1)?;
-    bytes.extend_from_slice(&count.to_be_bytes())?;
+fn push_pool(alloc: Global, bytes: &mut Vec<u8>) -> Result<(), AllocError> {
+    let count = u16::try_from(POOL.lines().count()).unwrap_or(0);
+    bytes.extend_from_slice(&count.saturating_add(1).to_be_bytes())?;
     for line in POOL.lines() {
-        if let Some((_, words)) = line.split_once(' ') {
-            push_words(alloc, bytes, words)?;
-        }
+        let (_, words) = line.split_once(' ').unwrap_or((line, ""));
+        push_words(alloc, bytes, words)?;
     }
     Ok(())
 }
 
 // The class of a line's words.
-fn class_of(alloc: Global, words: &str) -> Result<Vec<u8>, Fail> {
+fn push_class(alloc: Global, bytes: &mut Vec<u8>, words: &str) -> Result<(), AllocError> {
     let (version, behind) = words.split_once(' ').unwrap_or((words, ""));
-    let mut bytes = Vec::from_slice(alloc, &[0xca, 0xfe, 0xba, 0xbe])?;
-    push_words(alloc, &mut bytes, version)?;
-    push_pool(alloc, &mut bytes)?;
-    push_words(alloc, &mut bytes, behind)?;
-    Ok(bytes)
+    bytes.extend_from_slice(&[0xca, 0xfe, 0xba, 0xbe])?;
+    push_words(alloc, bytes, version)?;
+    push_pool(alloc, bytes)?;
+    push_words(alloc, bytes, behind)
 }
 
-// What is read of the bytes: `yes`, `no` or the version.
-fn answer_of(alloc: Global, bytes: &[u8]) -> Result<String, Fail> {
-    match read_class(alloc, bytes) {
-        Err(FormatFault::Version(minor, major)) => Ok(format!(in alloc; "{minor}.{major}")?),
-        Err(FormatFault::NotClass) => Ok(String::from_str(alloc, "no")?),
-        Err(FormatFault::Memory) => Ok(String::from_str(alloc, "memory")?),
-        Ok(_) => Ok(String::from_str(alloc, "yes")?),
+fn try_row(alloc: Global, wrong: &mut String, row: &str) -> Result<(), AllocError> {
+    let (shown, words) = row.split_once("; ").unwrap_or((row, ""));
+    let (wanted, _) = shown.split_once(' ').unwrap_or((row, ""));
+    let mut class = Vec::new(alloc);
+    push_class(alloc, &mut class, words)?;
+    try_class(alloc, wrong, row, &class, wanted)
+}
+
+fn wrong_rows(alloc: Global, rows: &str) -> Result<String, AllocError> {
+    let mut wrong = String::new(alloc);
+    for row in rows.lines() {
+        try_row(alloc, &mut wrong, row)?;
     }
-}
-
-fn line_holds(rt: &impl Abort, alloc: Global, line: &str) -> Result<(), Fail> {
-    let (shown, words) = line.split_once("; ").ok_or("no words")?;
-    let (wanted, _) = shown.split_once(' ').ok_or("no answer")?;
-    let class = class_of(alloc, words)?;
-    let answer = answer_of(alloc, &class)?;
-    assert_eq!(rt; answer.as_str(), wanted, "{shown}");
-    Ok(())
+    Ok(wrong)
 }
 
 #[test]
 fn each_line_of_the_table_holds(rt: HostRuntime) -> Result<(), Fail> {
-    for line in CLASSES.lines() {
-        line_holds(&rt, rt.alloc(), line)?;
-    }
+    assert_eq!(rt; wrong_rows(rt.alloc(), CLASSES)?.as_str(), "");
     Ok(())
 }
 
@@ -234,16 +335,24 @@ static MEMBERS: &str = "00000034 0021 #cA #cObject 0001 #cB 0001
 static MEMBERS_SHOWN: &str =
     "[FieldTree { flags: 25, name: 12, desc: 29, value: 46 }] [MethodTree { flags: 9, name: 11, desc: 13, code: Some(CodeTree { stack: 3, locals: 4, bytes: Items { items: [0, 177] }, handlers: Items { items: [Handler { start: 0, end: 1, handler: 1, catch: 6 }] }, map: Some(Items { items: [10, 11, 12] }) }) }]";
 
-#[test]
-fn each_part_of_a_member_is_kept(rt: HostRuntime) -> Result<(), Fail> {
-    let alloc = rt.alloc();
-    let class = class_of(alloc, MEMBERS)?;
-    let tree = read_class(alloc, &class)?;
-    let shown = format!(in alloc;
+fn members_of(alloc: Global, bytes: &[u8]) -> Result<String, FormatFault> {
+    let tree = read_class(alloc, bytes)?;
+    Ok(format!(in alloc;
         "{:?} {:?}",
         tree.fields.as_slice(),
         tree.methods.as_slice()
-    )?;
+    )?)
+}
+
+fn members_shown(alloc: Global, words: &str) -> Result<String, FormatFault> {
+    let mut class = Vec::new(alloc);
+    push_class(alloc, &mut class, words)?;
+    members_of(alloc, &class)
+}
+
+#[test]
+fn each_part_of_a_member_is_kept(rt: HostRuntime) -> Result<(), Fail> {
+    let shown = members_shown(rt.alloc(), MEMBERS)?;
     assert_eq!(rt; shown.as_str(), MEMBERS_SHOWN);
     Ok(())
 }
@@ -251,22 +360,33 @@ fn each_part_of_a_member_is_kept(rt: HostRuntime) -> Result<(), Fail> {
 // ---- as many as there can be
 
 // UNIT up to its count, the count, and its four entries.
-fn with_count(alloc: Global, count: u16) -> Result<Vec<u8>, Fail> {
-    let mut bytes = Vec::from_slice(alloc, &UNIT[..8])?;
+fn push_count(bytes: &mut Vec<u8>, count: u16) -> Result<(), AllocError> {
+    bytes.extend_from_slice(&UNIT[..8])?;
     bytes.extend_from_slice(&count.to_be_bytes())?;
-    bytes.extend_from_slice(&UNIT[10..39])?;
-    Ok(bytes)
+    bytes.extend_from_slice(&UNIT[10..39])
+}
+
+fn push_integers(bytes: &mut Vec<u8>) -> Result<(), AllocError> {
+    push_count(bytes, 65_535)?;
+    for _ in 0..65_530u16 {
+        bytes.extend_from_slice(&[3, 0, 0, 0, 7])?;
+    }
+    bytes.extend_from_slice(&UNIT[39..])
+}
+
+// How many entries and how many methods are read, and none where there is no class.
+fn sizes_read(alloc: Global, bytes: &[u8]) -> (usize, usize) {
+    match read_class(alloc, bytes) {
+        Ok(tree) => (tree.pool.entries().len(), tree.methods.len()),
+        Err(_) => (0, 0),
+    }
 }
 
 #[test]
 fn a_pool_may_have_65534_entries(rt: HostRuntime) -> Result<(), Fail> {
-    let mut bytes = with_count(rt.alloc(), 65_535)?;
-    for _ in 0..65_530u16 {
-        bytes.extend_from_slice(&[3, 0, 0, 0, 7])?;
-    }
-    bytes.extend_from_slice(&UNIT[39..])?;
-    let tree = read_class(rt.alloc(), &bytes)?;
-    assert_eq!(rt; tree.pool.entries().len(), 65_535);
+    let mut bytes = Vec::new(rt.alloc());
+    push_integers(&mut bytes)?;
+    assert_eq!(rt; sizes_read(rt.alloc(), &bytes).0, 65_535);
     Ok(())
 }
 
@@ -276,7 +396,7 @@ fn letters(number: u8) -> (u8, u8) {
 }
 
 // Names of two letters from index 5 on, and descriptors with such a class as their result from 261 on.
-fn push_texts(bytes: &mut Vec<u8>) -> Result<(), Fail> {
+fn push_texts(bytes: &mut Vec<u8>) -> Result<(), AllocError> {
     for number in 0..=255u8 {
         let (a, b) = letters(number);
         bytes.extend_from_slice(&[1, 0, 2, a, b])?;
@@ -289,52 +409,68 @@ fn push_texts(bytes: &mut Vec<u8>) -> Result<(), Fail> {
 }
 
 // A native method with no attributes.
-fn push_method(bytes: &mut Vec<u8>, name: u8, desc: u8) -> Result<(), Fail> {
+fn push_method(bytes: &mut Vec<u8>, name: u8, desc: u8) -> Result<(), AllocError> {
     bytes.extend_from_slice(&[1, 8])?;
     bytes.extend_from_slice(&(5 + u16::from(name)).to_be_bytes())?;
     bytes.extend_from_slice(&(261 + u16::from(desc)).to_be_bytes())?;
-    bytes.extend_from_slice(&[0, 0])?;
+    bytes.extend_from_slice(&[0, 0])
+}
+
+fn push_methods(bytes: &mut Vec<u8>) -> Result<(), AllocError> {
+    for name in 0..=255u8 {
+        for desc in 0..=255u8 {
+            if name != 255 || desc != 255 {
+                push_method(bytes, name, desc)?;
+            }
+        }
+    }
     Ok(())
+}
+
+fn push_full_class(bytes: &mut Vec<u8>) -> Result<(), AllocError> {
+    push_count(bytes, 517)?;
+    push_texts(bytes)?;
+    bytes.extend_from_slice(&[0, 33, 0, 2, 0, 4, 0, 0, 0, 0, 255, 255])?;
+    push_methods(bytes)?;
+    bytes.extend_from_slice(&[0, 0])
 }
 
 #[test]
 fn a_class_may_have_65535_methods(rt: HostRuntime) -> Result<(), Fail> {
-    let mut bytes = with_count(rt.alloc(), 517)?;
-    push_texts(&mut bytes)?;
-    bytes.extend_from_slice(&[0, 33, 0, 2, 0, 4, 0, 0, 0, 0, 255, 255])?;
-    for name in 0..=255u8 {
-        for desc in 0..=255u8 {
-            if name != 255 || desc != 255 {
-                push_method(&mut bytes, name, desc)?;
-            }
-        }
-    }
-    bytes.extend_from_slice(&[0, 0])?;
-    let tree = read_class(rt.alloc(), &bytes)?;
-    assert_eq!(rt; tree.methods.len(), 65_535);
+    let mut bytes = Vec::new(rt.alloc());
+    push_full_class(&mut bytes)?;
+    assert_eq!(rt; sizes_read(rt.alloc(), &bytes).1, 65_535);
     Ok(())
 }
 
-// A class with a static method of so many bytes of code, all of them return.
-fn with_code(alloc: Global, size: u32) -> Result<Vec<u8>, Fail> {
-    let mut bytes = class_of(alloc, "00000034 0021 #cA #cObject 0000 0000 0001")?;
-    push_words(alloc, &mut bytes, "0009 #m #()V 0001 #Code")?;
-    bytes.extend_from_slice(&(12 + u64::from(size)).to_be_bytes()[4..])?;
+// A code of so many bytes, all of them return, and what stands behind it in a class.
+fn push_code(bytes: &mut Vec<u8>, size: u32) -> Result<(), AllocError> {
+    bytes.extend_from_slice(&size.saturating_add(12).to_be_bytes())?;
     bytes.extend_from_slice(&[0, 0, 0, 0])?;
     bytes.extend_from_slice(&size.to_be_bytes())?;
     for _ in 0..size {
         bytes.push(177)?;
     }
-    bytes.extend_from_slice(&[0, 0, 0, 0, 0, 0])?;
-    Ok(bytes)
+    bytes.extend_from_slice(&[0, 0, 0, 0, 0, 0])
 }
+
+// A class with a static method of so many bytes of code.
+fn try_size(alloc: Global, wrong: &mut String, row: &str) -> Result<(), AllocError> {
+    let (size, wanted) = row.split_once(" = ").unwrap_or((row, ""));
+    let mut class = Vec::new(alloc);
+    push_class(alloc, &mut class, WITH_CODE)?;
+    push_code(&mut class, size.parse::<u32>().unwrap_or(0))?;
+    try_class(alloc, wrong, row, &class, wanted)
+}
+
+static WITH_CODE: &str = "00000034 0021 #cA #cObject 0000 0000 0001 0009 #m #()V 0001 #Code";
 
 #[test]
 fn a_code_may_have_65535_bytes(rt: HostRuntime) -> Result<(), Fail> {
-    let alloc = rt.alloc();
-    let longest = with_code(alloc, 65_535)?;
-    assert_eq!(rt; answer_of(alloc, &longest)?.as_str(), "yes");
-    let longer = with_code(alloc, 65_536)?;
-    assert_eq!(rt; answer_of(alloc, &longer)?.as_str(), "no");
+    let mut wrong = String::new(rt.alloc());
+    for row in ["65535 = yes", "65536 = no"] {
+        try_size(rt.alloc(), &mut wrong, row)?;
+    }
+    assert_eq!(rt; wrong.as_str(), "");
     Ok(())
 }

@@ -1,10 +1,11 @@
 // What no contract says: that a class of the first form is read where memory suffices.
+use crate::class_tests::tell_wrong;
 use crate::{
-    FormFault, Instruction, each_class_is_named, one_name, one_program, read_class, read_name,
+    FormFault, Program, each_class_is_named, one_name, one_program, read_class, read_name,
     read_program, tree_program,
 };
-use std::alloc::Global;
-use std::process::Abort;
+use class_tree::ClassTree;
+use std::alloc::{AllocError, Global};
 use std::test::Fail;
 
 // `main` puts 40 + 2.
@@ -18,50 +19,88 @@ const PUTS_42: [u8; 160] = [
     8, 0, 9, 0, 0, 0, 0,
 ];
 
+// The two sizes and the instructions, or why there is no program.
+fn program_shown(alloc: Global, read: Result<Program, FormFault>) -> Result<String, AllocError> {
+    match read {
+        Err(FormFault::NotFirstForm) => String::from_str(alloc, "refused"),
+        Err(FormFault::Memory) => String::from_str(alloc, "memory"),
+        Ok(program) => {
+            let instructions = program.instructions.as_slice();
+            format!(in alloc;
+                "{} {}: {instructions:?}",
+                program.max_stack, program.max_locals
+            )
+        }
+    }
+}
+
+fn shown(alloc: Global, bytes: &[u8]) -> Result<String, AllocError> {
+    program_shown(alloc, read_program(alloc, bytes))
+}
+
 #[test]
 fn a_sum_is_read(rt: HostRuntime) -> Result<(), Fail> {
-    let program = read_program(rt.alloc(), &PUTS_42)?;
-    let wanted = [
-        Instruction::Push(40),
-        Instruction::Push(2),
-        Instruction::Add,
-        Instruction::Put,
-        Instruction::Return,
-    ];
-    assert_eq!(rt; program.max_stack, 2);
-    assert_eq!(rt; program.max_locals, 1);
-    assert_eq!(rt; program.instructions.as_slice(), wanted.as_slice());
+    let wanted = "2 1: [Push(40), Push(2), Add, Put, Return]";
+    assert_eq!(rt; shown(rt.alloc(), &PUTS_42)?.as_str(), wanted);
     one_program();
     Ok(())
+}
+
+// How many instructions the program of a tree has, and none where there is no program.
+fn push_length(alloc: Global, said: &mut String, tree: &ClassTree) -> Result<(), AllocError> {
+    match tree_program(alloc, tree) {
+        Ok(program) => {
+            let count = program.instructions.len();
+            said.push_str(format!(in alloc; "{count} ")?.as_str())
+        }
+        Err(FormFault::NotFirstForm) => said.push_str("refused "),
+        Err(FormFault::Memory) => said.push_str("memory "),
+    }
+}
+
+// The tree as it is, of version 51, and of version 52 with a superclass that isn't there, which breaks a rule of form.
+fn push_lengths(alloc: Global, said: &mut String, tree: &mut ClassTree) -> Result<(), AllocError> {
+    push_length(alloc, said, tree)?;
+    tree.major = 51;
+    push_length(alloc, said, tree)?;
+    tree.major = 52;
+    tree.sup = 65535;
+    push_length(alloc, said, tree)
 }
 
 #[test]
 fn the_tree_of_a_class_has_its_program(rt: HostRuntime) -> Result<(), Fail> {
     let mut tree = read_class(rt.alloc(), &PUTS_42)?;
-    let program = tree_program(rt.alloc(), &tree)?;
-    assert_eq!(rt; program.instructions.len(), 5);
-    tree.major = 51;
-    let older = tree_program(rt.alloc(), &tree);
-    assert_eq!(rt; older.err(), Some(FormFault::NotFirstForm));
-    tree.major = 52;
-    // A class whose superclass isn't there breaks a rule of form.
-    tree.sup = 65535;
-    let malformed = tree_program(rt.alloc(), &tree);
-    assert_eq!(rt; malformed.err(), Some(FormFault::NotFirstForm));
+    let mut said = String::new(rt.alloc());
+    push_lengths(rt.alloc(), &mut said, &mut tree)?;
+    assert_eq!(rt; said.as_str(), "5 refused refused ");
     Ok(())
 }
 
 #[test]
 fn a_cut_class_is_refused(rt: HostRuntime) -> Result<(), Fail> {
-    let cut = read_program(rt.alloc(), &PUTS_42[..159]);
-    assert_eq!(rt; cut.err(), Some(FormFault::NotFirstForm));
+    assert_eq!(rt; shown(rt.alloc(), &PUTS_42[..159])?.as_str(), "refused");
     Ok(())
+}
+
+// A word for the name inside.
+fn name_word(alloc: Global, bytes: &[u8]) -> &'static str {
+    match read_name(alloc, bytes) {
+        Ok(name) => {
+            if name.as_slice() == b"Main".as_slice() {
+                "Main"
+            } else {
+                "another"
+            }
+        }
+        Err(FormFault::NotFirstForm) => "refused",
+        Err(FormFault::Memory) => "memory",
+    }
 }
 
 #[test]
 fn the_name_inside_is_read(rt: HostRuntime) -> Result<(), Fail> {
-    let name = read_name(rt.alloc(), &PUTS_42)?;
-    assert_eq!(rt; name.as_slice(), b"Main".as_slice());
+    assert_eq!(rt; name_word(rt.alloc(), &PUTS_42), "Main");
     one_name();
     each_class_is_named();
     Ok(())
@@ -69,8 +108,7 @@ fn the_name_inside_is_read(rt: HostRuntime) -> Result<(), Fail> {
 
 #[test]
 fn a_cut_class_has_no_name(rt: HostRuntime) -> Result<(), Fail> {
-    let cut = read_name(rt.alloc(), &PUTS_42[..159]);
-    assert_eq!(rt; cut.err(), Some(FormFault::NotFirstForm));
+    assert_eq!(rt; name_word(rt.alloc(), &PUTS_42[..159]), "refused");
     Ok(())
 }
 
@@ -88,24 +126,21 @@ const FRONT: [u8; 141] = [
 // What stands behind the code of `main`.
 const BACK: [u8; 14] = [0, 0, 0, 0, 1, 9, 0, 8, 0, 9, 0, 0, 0, 0];
 
-// The class whose `main` has the code.
-fn class_of(
-    rt: &impl Abort,
-    alloc: Global,
-    stack: u16,
-    locals: u16,
-    code: &[u8],
-) -> Result<Vec<u8>, Fail> {
-    let size = u8::try_from(code.len())?;
-    assert!(rt; size < 200);
-    let mut bytes = Vec::new(alloc);
+fn push_class(bytes: &mut Vec<u8>, stack: u16, locals: u16, code: &[u8]) -> Result<(), AllocError> {
+    let size = u32::try_from(code.len()).unwrap_or(0);
     bytes.extend_from_slice(&FRONT)?;
-    bytes.extend_from_slice(&[0, 0, 0, 12 + size])?;
+    bytes.extend_from_slice(&size.saturating_add(12).to_be_bytes())?;
     bytes.extend_from_slice(&stack.to_be_bytes())?;
     bytes.extend_from_slice(&locals.to_be_bytes())?;
-    bytes.extend_from_slice(&[0, 0, 0, size])?;
+    bytes.extend_from_slice(&size.to_be_bytes())?;
     bytes.extend_from_slice(code)?;
-    bytes.extend_from_slice(&BACK)?;
+    bytes.extend_from_slice(&BACK)
+}
+
+// The class whose `main` has the code.
+fn class_of(alloc: Global, stack: u16, locals: u16, code: &[u8]) -> Result<Vec<u8>, AllocError> {
+    let mut bytes = Vec::new(alloc);
+    push_class(&mut bytes, stack, locals, code)?;
     Ok(bytes)
 }
 
@@ -252,34 +287,52 @@ static CODES: &str = "0 1: b1 = [Return]
 2 1: 03 b7 00 0b b1 = refused, invokespecial";
 
 // The bytes whose digits stand in the text.
-fn bytes_of(alloc: Global, text: &str) -> Result<Vec<u8>, Fail> {
+fn bytes_of(alloc: Global, text: &str) -> Result<Vec<u8>, AllocError> {
     let mut bytes = Vec::new(alloc);
     for byte in text.split_whitespace() {
-        bytes.push(u8::from_str_radix(byte, 16)?)?;
+        bytes.push(u8::from_str_radix(byte, 16).unwrap_or(u8::MAX))?;
     }
     Ok(bytes)
 }
 
-fn reads_code(rt: &impl Abort, alloc: Global, line: &str) -> Result<(), Fail> {
-    let (code, wanted) = line.split_once(" = ").ok_or("no answer")?;
-    let (sizes, bytes) = code.split_once(":").ok_or("no sizes")?;
-    let (stack, locals) = sizes.split_once(" ").ok_or("one size")?;
-    let code = bytes_of(alloc, bytes)?;
-    let class = class_of(
-        rt,
-        alloc,
-        stack.parse::<u16>()?,
-        locals.parse::<u16>()?,
-        &code,
-    )?;
-    if wanted.starts_with("refused") {
-        let read = read_program(alloc, &class);
-        assert_eq!(rt; read.err(), Some(FormFault::NotFirstForm), "{line}");
-        return Ok(());
+// A row gives the instructions alone, or why the code is refused.
+fn try_code(alloc: Global, wrong: &mut String, row: &str, class: &[u8]) -> Result<(), AllocError> {
+    let (code, wanted) = row.split_once(" = ").unwrap_or((row, ""));
+    let (sizes, _) = code.split_once(":").unwrap_or((code, ""));
+    let said = shown(alloc, class)?;
+    if wanted.starts_with("refused, ") {
+        return tell_wrong(wrong, row, said.as_str(), "refused");
     }
-    let program = read_program(alloc, &class)?;
-    let instructions = format!(in alloc; "{:?}", program.instructions.as_slice())?;
-    assert_eq!(rt; instructions.as_str(), wanted, "{line}");
+    let program = format!(in alloc; "{sizes}: {wanted}")?;
+    tell_wrong(wrong, row, said.as_str(), program.as_str())
+}
+
+// The class of a row.
+fn class_of_row(alloc: Global, row: &str) -> Result<Vec<u8>, AllocError> {
+    let (code, _) = row.split_once(" = ").unwrap_or((row, ""));
+    let (sizes, bytes) = code.split_once(":").unwrap_or((code, ""));
+    let (stack, locals) = sizes.split_once(" ").unwrap_or((sizes, ""));
+    let code = bytes_of(alloc, bytes)?;
+    class_of(
+        alloc,
+        stack.parse::<u16>().unwrap_or(u16::MAX),
+        locals.parse::<u16>().unwrap_or(u16::MAX),
+        &code,
+    )
+}
+
+fn wrong_codes(alloc: Global, rows: &str) -> Result<String, AllocError> {
+    let mut wrong = String::new(alloc);
+    for row in rows.lines() {
+        let class = class_of_row(alloc, row)?;
+        try_code(alloc, &mut wrong, row, &class)?;
+    }
+    Ok(wrong)
+}
+
+#[test]
+fn each_opcode_is_read_and_its_operands_are(rt: HostRuntime) -> Result<(), Fail> {
+    assert_eq!(rt; wrong_codes(rt.alloc(), CODES)?.as_str(), "");
     Ok(())
 }
 
@@ -287,45 +340,52 @@ fn reads_code(rt: &impl Abort, alloc: Global, line: &str) -> Result<(), Fail> {
 static OPCODES: &str = "00 02 03 04 05 06 07 08 10 11 12 13 15 1a 1b 1c 1d 36 3b 3c 3d 3e
 57 59 60 64 68 74 78 7a 7c 7e 80 82 84 91 92 93 b1 b8";
 
-#[test]
-fn no_other_opcode_is_read(rt: HostRuntime) -> Result<(), Fail> {
-    let alloc = rt.alloc();
-    let known = bytes_of(alloc, OPCODES)?;
-    assert_eq!(rt; known.len(), 40);
+fn try_opcode(alloc: Global, wrong: &mut String, opcode: u8) -> Result<(), AllocError> {
+    let class = class_of(alloc, 4, 4, &[3, 59, 3, 4, opcode, 177])?;
+    let row = format!(in alloc; "{opcode}")?;
+    let said = shown(alloc, &class)?;
+    tell_wrong(wrong, row.as_str(), said.as_str(), "refused")
+}
+
+// First how many opcodes the form has, then each other one that isn't refused.
+fn wrong_opcodes(alloc: Global, known: &[u8]) -> Result<String, AllocError> {
+    let mut wrong = format!(in alloc; "{}\n", known.len())?;
     for opcode in 0..=255u8 {
         if !known.contains(&opcode) {
-            let class = class_of(&rt, alloc, 4, 4, &[3, 59, 3, 4, opcode, 177])?;
-            let read = read_program(alloc, &class);
-            assert_eq!(rt; read.err(), Some(FormFault::NotFirstForm), "{opcode}");
+            try_opcode(alloc, &mut wrong, opcode)?;
         }
     }
+    Ok(wrong)
+}
+
+#[test]
+fn no_other_opcode_is_read(rt: HostRuntime) -> Result<(), Fail> {
+    let known = bytes_of(rt.alloc(), OPCODES)?;
+    assert_eq!(rt; wrong_opcodes(rt.alloc(), &known)?.as_str(), "40\n");
     Ok(())
 }
 
-// The class has 250 Integers more, 0 to 249, from index 15 on: its pool ends at place 119.
+// A class with 250 Integers more, 0 to 249, from index 15 on: its pool ends at place 119.
+fn push_more_integers(bytes: &mut Vec<u8>, class: &[u8]) -> Result<(), AllocError> {
+    if class.len() > 119 {
+        bytes.extend_from_slice(&class[..8])?;
+        bytes.extend_from_slice(&[1, 9])?;
+        bytes.extend_from_slice(&class[10..119])?;
+        for number in 0..250u8 {
+            bytes.extend_from_slice(&[3, 0, 0, 0, number])?;
+        }
+        bytes.extend_from_slice(&class[119..])?;
+    }
+    Ok(())
+}
+
 #[test]
 fn ldc_w_has_an_index_of_two_bytes(rt: HostRuntime) -> Result<(), Fail> {
-    let alloc = rt.alloc();
-    let class = class_of(&rt, alloc, 1, 1, &[19, 1, 8, 177])?;
-    assert!(rt; class.len() > 119);
-    let mut bytes = Vec::from_slice(alloc, &class[..8])?;
-    bytes.extend_from_slice(&[1, 9])?;
-    bytes.extend_from_slice(&class[10..119])?;
-    for number in 0..250u8 {
-        bytes.extend_from_slice(&[3, 0, 0, 0, number])?;
-    }
-    bytes.extend_from_slice(&class[119..])?;
-    let program = read_program(alloc, &bytes)?;
-    let wanted = [Instruction::Push(249), Instruction::Return];
-    assert_eq!(rt; program.instructions.as_slice(), wanted.as_slice());
-    Ok(())
-}
-
-#[test]
-fn each_opcode_is_read_and_its_operands_are(rt: HostRuntime) -> Result<(), Fail> {
-    for line in CODES.lines() {
-        reads_code(&rt, rt.alloc(), line)?;
-    }
+    let class = class_of(rt.alloc(), 1, 1, &[19, 1, 8, 177])?;
+    let mut bytes = Vec::new(rt.alloc());
+    push_more_integers(&mut bytes, &class)?;
+    let said = shown(rt.alloc(), &bytes)?;
+    assert_eq!(rt; said.as_str(), "1 1: [Push(249), Return]");
     Ok(())
 }
 
@@ -345,26 +405,58 @@ static OTHERS: &str = "7 8: 32 = version 50
 129 148: 1c 00 02 00 01 00 00 00 08 10 28 05 60 b8 00 0b b1 00 01 00 00 00 01 00 00 00 00 = a handler
 151 152: 19 = a put that is final";
 
-fn is_other(rt: &impl Abort, alloc: Global, line: &str) -> Result<(), Fail> {
-    let (places, rest) = line.split_once(": ").ok_or("no places")?;
-    let (from, to) = places.split_once(" ").ok_or("one place")?;
-    let (between, _) = rest.split_once(" = ").ok_or("no reason")?;
-    let from = from.parse::<usize>()?;
-    let to = to.parse::<usize>()?;
-    assert!(rt; from <= to && to <= PUTS_42.len());
-    let mut bytes = Vec::from_slice(alloc, &PUTS_42[..from])?;
-    bytes.extend_from_slice(&bytes_of(alloc, between)?)?;
-    bytes.extend_from_slice(&PUTS_42[to..])?;
-    assert!(rt; read_class(alloc, &bytes).is_ok(), "{line}");
-    let read = read_program(alloc, &bytes);
-    assert_eq!(rt; read.err(), Some(FormFault::NotFirstForm), "{line}");
-    Ok(())
+// PUTS_42 with other bytes between two places.
+fn push_other(
+    bytes: &mut Vec<u8>,
+    from: usize,
+    between: &[u8],
+    to: usize,
+) -> Result<(), AllocError> {
+    bytes.extend_from_slice(PUTS_42.get(..from).unwrap_or(&[]))?;
+    bytes.extend_from_slice(between)?;
+    bytes.extend_from_slice(PUTS_42.get(to..).unwrap_or(&[]))
+}
+
+// The class of a row.
+fn other_class(alloc: Global, row: &str) -> Result<Vec<u8>, AllocError> {
+    let (places, rest) = row.split_once(": ").unwrap_or((row, ""));
+    let (from, to) = places.split_once(" ").unwrap_or((places, ""));
+    let (between, _) = rest.split_once(" = ").unwrap_or((rest, ""));
+    let mut bytes = Vec::new(alloc);
+    push_other(
+        &mut bytes,
+        from.parse::<usize>().unwrap_or(0),
+        &bytes_of(alloc, between)?,
+        to.parse::<usize>().unwrap_or(0),
+    )?;
+    Ok(bytes)
+}
+
+// Whether a class is read.
+fn class_word(alloc: Global, bytes: &[u8]) -> &'static str {
+    match read_class(alloc, bytes) {
+        Ok(_) => "a class",
+        Err(_) => "no class",
+    }
+}
+
+fn try_other(alloc: Global, wrong: &mut String, row: &str) -> Result<(), AllocError> {
+    let class = other_class(alloc, row)?;
+    tell_wrong(wrong, row, class_word(alloc, &class), "a class")?;
+    let said = shown(alloc, &class)?;
+    tell_wrong(wrong, row, said.as_str(), "refused")
+}
+
+fn wrong_others(alloc: Global, rows: &str) -> Result<String, AllocError> {
+    let mut wrong = String::new(alloc);
+    for row in rows.lines() {
+        try_other(alloc, &mut wrong, row)?;
+    }
+    Ok(wrong)
 }
 
 #[test]
 fn a_class_file_of_another_form_is_refused(rt: HostRuntime) -> Result<(), Fail> {
-    for line in OTHERS.lines() {
-        is_other(&rt, rt.alloc(), line)?;
-    }
+    assert_eq!(rt; wrong_others(rt.alloc(), OTHERS)?.as_str(), "");
     Ok(())
 }
