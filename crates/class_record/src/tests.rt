@@ -4,35 +4,67 @@ use crate::{
     orders_grow, readings_are_spelled, sees,
 };
 use loader_rules::Loader;
-use std::process::Abort;
+use std::alloc::{AllocError, Global};
+use std::test::Fail;
 
-#[test]
-fn throwables_have_internal_names(rt: HostRuntime) {
-    assert_eq!(rt; JavaFault::Throwable.name(), "java/lang/Throwable");
-    assert_eq!(rt;
-        JavaFault::ClassCircularityError.name(),
-        "java/lang/ClassCircularityError"
-    );
-    assert_eq!(rt;
-        JavaFault::NullPointerException.name(),
-        "java/lang/NullPointerException"
-    );
+fn loader(word: &str) -> Loader {
+    match word {
+        "boot" => Loader::Boot,
+        "platform" => Loader::Platform,
+        _ => Loader::App,
+    }
 }
 
-// Whether a loader sees the classes of the boot loader, the platform loader and the application loader.
-fn seen_by(from: Loader) -> (bool, bool, bool) {
-    (
-        sees(from, Loader::Boot),
-        sees(from, Loader::Platform),
-        sees(from, Loader::App),
-    )
+fn word_of(answer: bool) -> &'static str {
+    if answer { "yes" } else { "no" }
+}
+
+// The name of a throwable, or whether the first loader sees the classes of the second.
+fn said(call: &str) -> &'static str {
+    let (verb, of) = call.split_once(' ').unwrap_or((call, ""));
+    match call {
+        "throwable" => JavaFault::Throwable.name(),
+        "circularity" => JavaFault::ClassCircularityError.name(),
+        "null pointer" => JavaFault::NullPointerException.name(),
+        _ => word_of(sees(loader(verb), loader(of))),
+    }
+}
+
+fn try_row(wrong: &mut String, row: &str) -> Result<(), AllocError> {
+    let (call, wanted) = row.split_once(" = ").unwrap_or((row, ""));
+    if said(call) != wanted {
+        wrong.push_str(row)?;
+        wrong.push_str(" but ")?;
+        wrong.push_str(said(call))?;
+    }
+    Ok(())
+}
+
+// The rows `CALL = ANSWER` that are wrong.
+fn wrong_rows(alloc: Global, rows: &str) -> Result<String, AllocError> {
+    let mut wrong = String::new(alloc);
+    for row in rows.lines() {
+        try_row(&mut wrong, row)?;
+    }
+    Ok(wrong)
 }
 
 #[test]
-fn a_loader_sees_its_own_classes_and_those_of_the_loaders_above(rt: HostRuntime) {
-    assert!(rt; seen_by(Loader::Boot) == (true, false, false));
-    assert!(rt; seen_by(Loader::Platform) == (true, true, false));
-    assert!(rt; seen_by(Loader::App) == (true, true, true));
+fn throwables_have_internal_names_and_loaders_see_those_above(rt: HostRuntime) -> Result<(), Fail> {
+    let rows = "throwable = java/lang/Throwable
+circularity = java/lang/ClassCircularityError
+null pointer = java/lang/NullPointerException
+boot boot = yes
+boot platform = no
+boot app = no
+platform boot = yes
+platform platform = yes
+platform app = no
+app boot = yes
+app platform = yes
+app app = yes";
+    assert_eq!(rt; wrong_rows(rt.alloc(), rows)?.as_str(), "");
+    Ok(())
 }
 
 #[test]

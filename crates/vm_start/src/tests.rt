@@ -1,20 +1,43 @@
 // The names of the required classes.
 use crate::required_name;
-use std::process::Abort;
+use std::alloc::{AllocError, Global};
+use std::test::Fail;
 
-#[test]
-fn required_classes_are_numbered_from_1_on(rt: HostRuntime) {
-    assert!(rt; required_name(1) == b"java/lang/Object".as_slice());
-    assert!(rt; required_name(6) == b"java/lang/String".as_slice());
-    assert!(rt; required_name(15) == b"java/lang/UnsupportedClassVersionError".as_slice());
-    assert!(rt; required_name(38) == b"java/lang/CloneNotSupportedException".as_slice());
+fn name_of(number: &str) -> &'static str {
+    let number = number.parse::<u32>().unwrap_or(1);
+    str::from_utf8(required_name(number)).unwrap_or("no text")
+}
+
+fn try_row(wrong: &mut String, row: &str) -> Result<(), AllocError> {
+    let (number, wanted) = row.split_once(" = ").unwrap_or((row, "?"));
+    if name_of(number) != wanted {
+        wrong.push_str(row)?;
+        wrong.push_str(" but ")?;
+        wrong.push_str(name_of(number))?;
+    }
+    Ok(())
+}
+
+// The rows `NUMBER = NAME` that are wrong.
+fn wrong_rows(alloc: Global, rows: &str) -> Result<String, AllocError> {
+    let mut wrong = String::new(alloc);
+    for row in rows.lines() {
+        try_row(&mut wrong, row)?;
+    }
+    Ok(wrong)
 }
 
 #[test]
-fn other_numbers_have_no_class(rt: HostRuntime) {
-    assert!(rt; required_name(0).is_empty());
-    assert!(rt; required_name(39).is_empty());
-    assert!(rt; required_name(u32::MAX).is_empty());
+fn required_classes_are_numbered_from_1_on(rt: HostRuntime) -> Result<(), Fail> {
+    let rows = "0 = 
+1 = java/lang/Object
+6 = java/lang/String
+15 = java/lang/UnsupportedClassVersionError
+38 = java/lang/CloneNotSupportedException
+39 = 
+4294967295 = ";
+    assert_eq!(rt; wrong_rows(rt.alloc(), rows)?.as_str(), "");
+    Ok(())
 }
 
 // Whether no class with a lower number has the name of this one.
@@ -27,10 +50,19 @@ fn is_first(number: u32) -> bool {
     true
 }
 
-#[test]
-fn no_two_required_classes_have_one_name(rt: HostRuntime) {
-    for number in 1..39 {
-        assert!(rt; is_first(number));
+// The numbers from 1 to 39 whose name a lower one has.
+fn later_numbers(alloc: Global) -> Result<String, AllocError> {
+    let mut later = String::new(alloc);
+    for number in 1..40 {
+        if !is_first(number) {
+            later.push_str(format!(in alloc; "{number} ")?.as_str())?;
+        }
     }
-    assert!(rt; !is_first(39));
+    Ok(later)
+}
+
+#[test]
+fn no_two_required_classes_have_one_name(rt: HostRuntime) -> Result<(), Fail> {
+    assert_eq!(rt; later_numbers(rt.alloc())?.as_str(), "39 ");
+    Ok(())
 }
