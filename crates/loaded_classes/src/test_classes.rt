@@ -15,8 +15,7 @@ use class_record::{Classes, MAX_LOADED};
 use class_tree::{ClassTree, CodeTree, FieldTree, Handler, MethodTree, Pool, PoolEntry};
 use loader_rules::Loader;
 use sqlite_items::Items;
-use std::alloc::Global;
-use std::test::Fail;
+use std::alloc::{AllocError, Global};
 
 // ---- what `push` asks for
 
@@ -106,46 +105,53 @@ fn may_push(classes: &LoadedClasses, tree: &ClassTree) -> bool
         && classes.count() < MAX_LOADED
 }
 
+// One that can't be put in is left out.
 fn push(
     classes: &mut LoadedClasses,
     loader: Loader,
     folder: u32,
     tree: ClassTree,
-) -> Result<(), Fail> {
+) -> Result<(), AllocError> {
     if !may_push(classes, &tree) {
-        return Err(Fail::from("a class that can't be put in"));
+        return Ok(());
     }
     match classes.push(loader, folder, tree) {
         Ok(_) => Ok(()),
-        Err(_) => Err(Fail::from("no memory")),
+        Err(_) => Err(AllocError),
     }
 }
 
 // ---- lines
 
-fn pool_of(alloc: Global, words: &str) -> Result<Pool, Fail> {
+fn number(word: &str) -> u16 {
+    word.parse::<u16>().unwrap_or(u16::MAX)
+}
+
+fn entry_of(alloc: Global, word: &str) -> Result<PoolEntry, AllocError> {
+    match word.parse::<u16>() {
+        Ok(name) => Ok(PoolEntry::Class(name)),
+        Err(_) => Ok(PoolEntry::Utf8(Items::from_slice(alloc, word.as_bytes())?)),
+    }
+}
+
+fn pool_of(alloc: Global, words: &str) -> Result<Pool, AllocError> {
     let mut entries = Items::new(alloc);
     entries.push(PoolEntry::Unusable)?;
     for word in words.split_whitespace() {
-        match word.parse::<u16>() {
-            Ok(name) => entries.push(PoolEntry::Class(name))?,
-            Err(_) => entries.push(PoolEntry::Utf8(Items::from_slice(alloc, word.as_bytes())?))?,
-        }
+        entries.push(entry_of(alloc, word)?)?;
     }
     Ok(Pool::new(entries))
 }
 
-fn numbers_of(alloc: Global, words: &str) -> Result<Items<u16>, Fail> {
-    let mut numbers = Items::new(alloc);
+fn push_numbers(numbers: &mut Items<u16>, words: &str) -> Result<(), AllocError> {
     for word in words.split_whitespace() {
-        numbers.push(word.parse::<u16>()?)?;
+        numbers.push(number(word))?;
     }
-    Ok(numbers)
+    Ok(())
 }
 
-fn fields_of(alloc: Global, words: &str) -> Result<Items<FieldTree>, Fail> {
-    let mut fields = Items::new(alloc);
-    for parts in numbers_of(alloc, words)?.as_slice().chunks_exact(4) {
+fn push_fields(fields: &mut Items<FieldTree>, numbers: &[u16]) -> Result<(), AllocError> {
+    for parts in numbers.chunks_exact(4) {
         fields.push(FieldTree {
             flags: parts[0],
             name: parts[1],
@@ -153,11 +159,11 @@ fn fields_of(alloc: Global, words: &str) -> Result<Items<FieldTree>, Fail> {
             value: parts[3],
         })?;
     }
-    Ok(fields)
+    Ok(())
 }
 
-// A code of one `return`, with a row of the exception table.
-fn code(alloc: Global, stack: u16, locals: u16) -> Result<CodeTree, Fail> {
+// A row of the exception table of a code with these limits.
+fn handlers_of(alloc: Global, stack: u16, locals: u16) -> Result<Items<Handler>, AllocError> {
     let mut handlers = Items::new(alloc);
     handlers.push(Handler {
         start: 0,
@@ -165,26 +171,40 @@ fn code(alloc: Global, stack: u16, locals: u16) -> Result<CodeTree, Fail> {
         handler: stack,
         catch: locals,
     })?;
+    Ok(handlers)
+}
+
+// A code of one `return`.
+fn code(alloc: Global, stack: u16, locals: u16) -> Result<CodeTree, AllocError> {
+    let bytes = Items::from_slice(alloc, &[0xb1])?;
     Ok(CodeTree {
         stack,
         locals,
-        bytes: Items::from_slice(alloc, &[0xb1])?,
-        handlers,
+        bytes,
+        handlers: handlers_of(alloc, stack, locals)?,
         map: None,
     })
 }
 
 // An abstract method has no code.
-fn code_of(alloc: Global, flags: u16, stack: u16, locals: u16) -> Result<Option<CodeTree>, Fail> {
+fn code_of(
+    alloc: Global,
+    flags: u16,
+    stack: u16,
+    locals: u16,
+) -> Result<Option<CodeTree>, AllocError> {
     if flags & 0x0400 != 0 {
         return Ok(None);
     }
     Ok(Some(code(alloc, stack, locals)?))
 }
 
-fn methods_of(alloc: Global, words: &str) -> Result<Items<MethodTree>, Fail> {
-    let mut methods = Items::new(alloc);
-    for parts in numbers_of(alloc, words)?.as_slice().chunks_exact(5) {
+fn push_methods(
+    alloc: Global,
+    methods: &mut Items<MethodTree>,
+    numbers: &[u16],
+) -> Result<(), AllocError> {
+    for parts in numbers.chunks_exact(5) {
         methods.push(MethodTree {
             flags: parts[0],
             name: parts[1],
@@ -192,47 +212,74 @@ fn methods_of(alloc: Global, words: &str) -> Result<Items<MethodTree>, Fail> {
             code: code_of(alloc, parts[0], parts[3], parts[4])?,
         })?;
     }
-    Ok(methods)
+    Ok(())
 }
 
-// The class has index 2, and its superclass index 4, where there is one.
-fn tree_of(alloc: Global, flags: u16, parts: &str) -> Result<ClassTree, Fail> {
-    let (pool, parts) = parts.split_once(';').ok_or("no pool")?;
-    let (interfaces, parts) = parts.split_once(';').ok_or("no interfaces")?;
-    let (fields, methods) = parts.split_once(';').ok_or("no fields")?;
-    Ok(ClassTree {
+// A class without members. It has index 2, and its superclass index 4, where there is one.
+fn tree_with(alloc: Global, flags: &str, pool: Pool) -> ClassTree {
+    ClassTree {
         major: 52,
-        flags,
-        pool: pool_of(alloc, pool)?,
+        flags: number(flags),
+        pool,
         this: 2,
         sup: 4,
-        interfaces: numbers_of(alloc, interfaces)?,
-        fields: fields_of(alloc, fields)?,
-        methods: methods_of(alloc, methods)?,
-    })
+        interfaces: Items::new(alloc),
+        fields: Items::new(alloc),
+        methods: Items::new(alloc),
+    }
 }
 
-fn push_line(alloc: Global, classes: &mut LoadedClasses, line: &str) -> Result<(), Fail> {
-    let (head, parts) = line.split_once(';').ok_or("no head")?;
-    let (loader, head) = head.split_once(' ').ok_or("no loader")?;
-    let (folder, flags) = head.split_once(' ').ok_or("no folder")?;
-    let tree = tree_of(alloc, flags.parse::<u16>()?, parts)?;
-    let loader = match loader {
+fn push_members(alloc: Global, tree: &mut ClassTree, parts: &str) -> Result<(), AllocError> {
+    let (interfaces, parts) = parts.split_once(';').unwrap_or((parts, ""));
+    let (fields, methods) = parts.split_once(';').unwrap_or((parts, ""));
+    push_numbers(&mut tree.interfaces, interfaces)?;
+    let mut numbers = Items::new(alloc);
+    push_numbers(&mut numbers, fields)?;
+    push_fields(&mut tree.fields, numbers.as_slice())?;
+    let mut numbers = Items::new(alloc);
+    push_numbers(&mut numbers, methods)?;
+    push_methods(alloc, &mut tree.methods, numbers.as_slice())
+}
+
+fn tree_of(alloc: Global, flags: &str, parts: &str) -> Result<ClassTree, AllocError> {
+    let (pool, parts) = parts.split_once(';').unwrap_or((parts, ""));
+    let mut tree = tree_with(alloc, flags, pool_of(alloc, pool)?);
+    push_members(alloc, &mut tree, parts)?;
+    Ok(tree)
+}
+
+fn loader_of(word: &str) -> Loader {
+    match word {
         "boot" => Loader::Boot,
         "platform" => Loader::Platform,
         _ => Loader::App,
-    };
-    push(classes, loader, folder.parse::<u32>()?, tree)
+    }
 }
 
-/// The classes of these lines, in their order. A line gives the loader, the folder and the flags of a class, and behind
-/// semicolons the entries of its pool from index 1 on, a number for the Class of a name and any other word for a Utf8, then
-/// its interfaces, its fields with flags, name, descriptor and value, and its methods with flags, name, descriptor, stack
-/// and locals.
-pub(crate) fn loaded(alloc: Global, lines: &str) -> Result<LoadedClasses, Fail> {
-    let mut classes = LoadedClasses::new(alloc);
+fn push_line(alloc: Global, classes: &mut LoadedClasses, line: &str) -> Result<(), AllocError> {
+    let (head, parts) = line.split_once(';').unwrap_or((line, ""));
+    let (loader, head) = head.split_once(' ').unwrap_or((head, ""));
+    let (folder, flags) = head.split_once(' ').unwrap_or((head, ""));
+    let folder = u32::from(number(folder));
+    push(
+        classes,
+        loader_of(loader),
+        folder,
+        tree_of(alloc, flags, parts)?,
+    )
+}
+
+/// Puts in the classes of these lines, in their order. A line gives the loader, the folder and the flags of a class, and
+/// behind semicolons the entries of its pool from index 1 on, a number for the Class of a name and any other word for a
+/// Utf8, then its interfaces, its fields with flags, name, descriptor and value, and its methods with flags, name,
+/// descriptor, stack and locals.
+pub(crate) fn push_lines(
+    alloc: Global,
+    classes: &mut LoadedClasses,
+    lines: &str,
+) -> Result<(), AllocError> {
     for line in lines.lines() {
-        push_line(alloc, &mut classes, line)?;
+        push_line(alloc, classes, line)?;
     }
-    Ok(classes)
+    Ok(())
 }

@@ -2,11 +2,10 @@
 ghost use Rattle.std.specs.Prelude.{◌≡◌, ◌<◌, length};
 
 use crate::LoadedClasses;
-use crate::test_classes::loaded;
-use class_record::{ClassId, Classes, JavaFault, PoolFact};
+use crate::test_classes::push_lines;
+use class_record::{ClassId, Classes, FieldFact, JavaFault, MethodFact, PoolFact};
 use loader_rules::Loader;
 use std::alloc::{AllocError, Global};
-use std::process::Abort;
 use std::test::Fail;
 
 static CLASSES: &str = "boot 0 33;java/lang/Object 1; ; ;
@@ -28,25 +27,21 @@ A 33 App 2 java/lang/Object , J K , I J K , x I 2 0 0 s I 8 0 7 I I 2 1 0 , m ()
 M 1537 App 3 java/lang/Object , , , , , 0 0 .
 B 32 App 4 A , M , I J K M , z J 8 0 0 z J 0 2 0 , , 3 1 .";
 
-fn put(text: &mut Vec<u8>, word: &[u8]) -> Result<(), AllocError> {
-    text.extend_from_slice(word)?;
-    text.extend_from_slice(b" ")
+fn put(text: &mut String, word: &[u8]) -> Result<(), AllocError> {
+    text.push_str(str::from_utf8(word).unwrap_or("?"))?;
+    text.push_str(" ")
 }
 
-fn put_number(text: &mut Vec<u8>, alloc: Global, number: u32) -> Result<(), AllocError> {
-    let number = format!(in alloc; "{number}")?;
-    put(text, number.as_bytes())
-}
-
-fn put_numbers(text: &mut Vec<u8>, alloc: Global, numbers: &[u32]) -> Result<(), AllocError> {
-    for number in numbers {
-        put_number(text, alloc, *number)?;
+fn loader_word(loader: Loader) -> &'static str {
+    match loader {
+        Loader::Boot => "Boot",
+        Loader::Platform => "Platform",
+        Loader::App => "App",
     }
-    Ok(())
 }
 
 fn put_head<C: Classes>(
-    text: &mut Vec<u8>,
+    text: &mut String,
     alloc: Global,
     classes: &C,
     id: ClassId,
@@ -54,29 +49,29 @@ fn put_head<C: Classes>(
     requires { id.0 < length (C.classes classes.now) }
 {
     put(text, classes.name(id))?;
-    put_number(text, alloc, u32::from(classes.flags(id)))?;
-    let loader = format!(in alloc; "{:?}", classes.loader(id))?;
-    put(text, loader.as_bytes())?;
-    put_number(text, alloc, classes.source(id).folder)
+    let flags = classes.flags(id);
+    let folder = classes.source(id).folder;
+    let head = format!(in alloc; "{flags} {} {folder} ", loader_word(classes.loader(id)))?;
+    text.push_str(head.as_str())
 }
 
-fn put_bases<C: Classes>(text: &mut Vec<u8>, classes: &C, id: ClassId) -> Result<(), AllocError>
+fn put_bases<C: Classes>(text: &mut String, classes: &C, id: ClassId) -> Result<(), AllocError>
     requires { id.0 < length (C.classes classes.now) }
 {
     if let Some(sup) = classes.super_of(id) {
         put(text, classes.name(sup))?;
     }
-    put(text, b",")?;
+    text.push_str(", ")?;
     for k in 0..3 {
         if let Some(found) = classes.interface(id, k) {
             put(text, classes.name(found))?;
         }
     }
-    put(text, b",")
+    text.push_str(", ")
 }
 
 fn put_superinterfaces<C: Classes>(
-    text: &mut Vec<u8>,
+    text: &mut String,
     classes: &C,
     id: ClassId,
 ) -> Result<(), AllocError>
@@ -87,11 +82,18 @@ fn put_superinterfaces<C: Classes>(
             put(text, classes.name(found))?;
         }
     }
-    put(text, b",")
+    text.push_str(", ")
+}
+
+fn put_field(text: &mut String, alloc: Global, field: FieldFact<'_>) -> Result<(), AllocError> {
+    put(text, field.name)?;
+    put(text, field.desc)?;
+    let numbers = format!(in alloc; "{} {} {} ", field.flags, field.slot, field.value)?;
+    text.push_str(numbers.as_str())
 }
 
 fn put_fields<C: Classes>(
-    text: &mut Vec<u8>,
+    text: &mut String,
     alloc: Global,
     classes: &C,
     id: ClassId,
@@ -100,17 +102,23 @@ fn put_fields<C: Classes>(
 {
     for k in 0..4 {
         if let Some(field) = classes.field(id, k) {
-            put(text, field.name)?;
-            put(text, field.desc)?;
-            let numbers = [u32::from(field.flags), field.slot, u32::from(field.value)];
-            put_numbers(text, alloc, &numbers)?;
+            put_field(text, alloc, field)?;
         }
     }
-    put(text, b",")
+    text.push_str(", ")
+}
+
+fn put_method(text: &mut String, alloc: Global, method: MethodFact<'_>) -> Result<(), AllocError> {
+    put(text, method.name)?;
+    put(text, method.desc)?;
+    let size = method.code.len();
+    let limits = (method.stack, method.locals);
+    let numbers = format!(in alloc; "{} {} {} {size} ", method.flags, limits.0, limits.1)?;
+    text.push_str(numbers.as_str())
 }
 
 fn put_methods<C: Classes>(
-    text: &mut Vec<u8>,
+    text: &mut String,
     alloc: Global,
     classes: &C,
     id: ClassId,
@@ -119,106 +127,99 @@ fn put_methods<C: Classes>(
 {
     for k in 0..3 {
         if let Some(method) = classes.method(id, k) {
-            put(text, method.name)?;
-            put(text, method.desc)?;
-            let limits = [
-                u32::from(method.flags),
-                u32::from(method.stack),
-                u32::from(method.locals),
-            ];
-            put_numbers(text, alloc, &limits)?;
-            put_number(text, alloc, method.code.len() as u32)?;
+            put_method(text, alloc, method)?;
         }
         if let Some(row) = classes.handler(id, k, 0) {
-            put_numbers(text, alloc, &[u32::from(row.handler), u32::from(row.catch)])?;
+            let row = format!(in alloc; "{} {} ", row.handler, row.catch)?;
+            text.push_str(row.as_str())?;
         }
     }
-    put(text, b",")
+    text.push_str(", ")
 }
 
-fn facts_of<C: Classes>(alloc: Global, classes: &C, id: ClassId) -> Result<Vec<u8>, AllocError>
+fn put_facts<C: Classes>(
+    text: &mut String,
+    alloc: Global,
+    classes: &C,
+    id: ClassId,
+) -> Result<(), AllocError>
     requires { id.0 < length (C.classes classes.now) }
 {
-    let mut text = Vec::new(alloc);
-    put_head(&mut text, alloc, classes, id)?;
-    put_bases(&mut text, classes, id)?;
-    put_superinterfaces(&mut text, classes, id)?;
-    put_fields(&mut text, alloc, classes, id)?;
-    put_methods(&mut text, alloc, classes, id)?;
+    put_head(text, alloc, classes, id)?;
+    put_bases(text, classes, id)?;
+    put_superinterfaces(text, classes, id)?;
+    put_fields(text, alloc, classes, id)?;
+    put_methods(text, alloc, classes, id)?;
     let (instance_size, static_size) = classes.sizes(id);
-    put_numbers(&mut text, alloc, &[instance_size, static_size])?;
-    text.extend_from_slice(b".")?;
-    Ok(text)
+    let sizes = format!(in alloc; "{instance_size} {static_size} .")?;
+    text.push_str(sizes.as_str())
 }
 
-fn line_holds(
-    rt: &impl Abort,
-    alloc: Global,
-    classes: &LoadedClasses,
-    id: u32,
-    line: &str,
-) -> Result<(), Fail> {
-    if id >= classes.count() {
-        return Err(Fail::from("no such class"));
+// A line for each class.
+fn put_lines(text: &mut String, alloc: Global, classes: &LoadedClasses) -> Result<(), AllocError> {
+    for id in 0..classes.count() {
+        if id > 0 {
+            text.push_str("\n")?;
+        }
+        put_facts(text, alloc, classes, ClassId(id))?;
     }
-    let facts = facts_of(alloc, classes, ClassId(id))?;
-    assert_eq!(rt; facts.as_slice(), line.as_bytes(), "{line}");
     Ok(())
 }
 
 #[test]
 fn each_class_has_its_facts(rt: HostRuntime) -> Result<(), Fail> {
-    let classes = loaded(rt.alloc(), CLASSES)?;
-    let mut lines = FACTS.lines();
-    for id in 0..7 {
-        let line = lines.next().ok_or("no line")?;
-        line_holds(&rt, rt.alloc(), &classes, id, line)?;
-    }
+    let mut classes = LoadedClasses::new(rt.alloc());
+    push_lines(rt.alloc(), &mut classes, CLASSES)?;
+    let mut facts = String::new(rt.alloc());
+    put_lines(&mut facts, rt.alloc(), &classes)?;
+    assert_eq!(rt; facts.as_str(), FACTS);
     Ok(())
+}
+
+// ---- calls by the names of classes
+
+fn number(word: &str) -> u16 {
+    word.parse::<u16>().unwrap_or(u16::MAX)
 }
 
 // Which of the entries that are looked for stands there.
-fn entry_at<C: Classes>(classes: &C, id: ClassId, k: u16) -> u8
+fn entry_at<C: Classes>(classes: &C, id: ClassId, k: u16) -> &'static str
     requires { id.0 < length (C.classes classes.now) }
 {
     match classes.pool(id, k) {
-        PoolFact::Utf8(b"x") => 1,
-        PoolFact::Class(b"J") => 2,
-        PoolFact::Unusable => 3,
-        _ => 4,
+        PoolFact::Utf8(b"x") => "Utf8 x",
+        PoolFact::Class(b"J") => "Class J",
+        PoolFact::Unusable => "unusable",
+        _ => "another",
     }
 }
 
-#[test]
-fn a_pool_has_its_texts(rt: HostRuntime) -> Result<(), Fail> {
-    let classes = loaded(rt.alloc(), CLASSES)?;
-    let id = classes.find_loaded(b"A").ok_or("no A")?;
-    let text = entry_at(&classes, id, 9);
-    let class = entry_at(&classes, id, 6);
-    let first = entry_at(&classes, id, 0);
-    let past = entry_at(&classes, id, 14);
-    let entries = [text, class, first, past];
-    assert_eq!(rt; entries, [1, 2, 3, 3]);
-    Ok(())
-}
-
-fn found<C: Classes>(classes: &mut C, name: &[u8], from: Loader) -> Option<u32> {
-    match classes.load(name, from) {
-        Ok(Ok(id)) => Some(id.0),
-        Ok(Err(JavaFault::NoClassDefFoundError)) => None,
-        _ => Some(99),
+fn say_found(
+    said: &mut String,
+    alloc: Global,
+    classes: &mut LoadedClasses,
+    name: &str,
+    from: Loader,
+) -> Result<(), AllocError> {
+    match classes.load(name.as_bytes(), from) {
+        Ok(Ok(id)) => said.push_str(format!(in alloc; "{}", id.0)?.as_str()),
+        Ok(Err(JavaFault::NoClassDefFoundError)) => said.push_str("not found"),
+        _ => said.push_str("another"),
     }
 }
 
-#[test]
-fn a_load_finds_what_its_loader_sees(rt: HostRuntime) -> Result<(), Fail> {
-    let mut classes = loaded(rt.alloc(), CLASSES)?;
-    assert_eq!(rt; found(&mut classes, b"A", Loader::App), Some(4));
-    assert_eq!(rt; found(&mut classes, b"A", Loader::Platform), None);
-    assert_eq!(rt; found(&mut classes, b"J", Loader::Platform), Some(2));
-    assert_eq!(rt; found(&mut classes, b"J", Loader::Boot), None);
-    assert_eq!(rt; found(&mut classes, b"C", Loader::App), None);
-    Ok(())
+fn say_load(
+    said: &mut String,
+    alloc: Global,
+    classes: &mut LoadedClasses,
+    name: &str,
+    from: &str,
+) -> Result<(), AllocError> {
+    match from {
+        "boot" => say_found(said, alloc, classes, name, Loader::Boot),
+        "platform" => say_found(said, alloc, classes, name, Loader::Platform),
+        _ => say_found(said, alloc, classes, name, Loader::App),
+    }
 }
 
 fn set<C: Classes>(classes: &mut C, id: ClassId, k: u16, value: u64) -> bool
@@ -232,20 +233,129 @@ fn set<C: Classes>(classes: &mut C, id: ClassId, k: u16, value: u64) -> bool
     true
 }
 
+// Sets the cache word at 1.
+fn set_word(classes: &mut LoadedClasses, name: &str, value: &str) -> &'static str {
+    let value = value.parse::<u64>().unwrap_or(1);
+    match classes.find_loaded(name.as_bytes()) {
+        Some(id) => {
+            if set(classes, id, 1, value) {
+                "set"
+            } else {
+                "not set"
+            }
+        }
+        None => "no class",
+    }
+}
+
+fn link_word(classes: &mut LoadedClasses, name: &str) -> &'static str {
+    let Some(id) = classes.find_loaded(name.as_bytes()) else {
+        return "no class";
+    };
+    match classes.link(id) {
+        Ok(None) => "linked",
+        _ => "not linked",
+    }
+}
+
+fn say_word(
+    said: &mut String,
+    alloc: Global,
+    classes: &LoadedClasses,
+    name: &str,
+    k: u16,
+) -> Result<(), AllocError> {
+    match classes.find_loaded(name.as_bytes()) {
+        Some(id) => said.push_str(format!(in alloc; "{}", classes.cache(id, k))?.as_str()),
+        None => said.push_str("no class"),
+    }
+}
+
+fn entry_word(classes: &LoadedClasses, name: &str, k: u16) -> &'static str {
+    match classes.find_loaded(name.as_bytes()) {
+        Some(id) => entry_at(classes, id, k),
+        None => "no class",
+    }
+}
+
+fn say(
+    said: &mut String,
+    alloc: Global,
+    classes: &mut LoadedClasses,
+    call: &str,
+) -> Result<(), AllocError> {
+    let (verb, words) = call.split_once(' ').unwrap_or((call, ""));
+    let (name, more) = words.split_once(' ').unwrap_or((words, ""));
+    match verb {
+        "load" => say_load(said, alloc, classes, name, more),
+        "set" => said.push_str(set_word(classes, name, more)),
+        "link" => said.push_str(link_word(classes, name)),
+        "word" => say_word(said, alloc, classes, name, number(more)),
+        _ => said.push_str(entry_word(classes, name, number(more))),
+    }
+}
+
+fn try_row(
+    wrong: &mut String,
+    alloc: Global,
+    classes: &mut LoadedClasses,
+    row: &str,
+) -> Result<(), AllocError> {
+    let (call, wanted) = row.split_once(" = ").unwrap_or((row, ""));
+    let mut said = String::new(alloc);
+    say(&mut said, alloc, classes, call)?;
+    if said.as_str() != wanted {
+        wrong.push_str(row)?;
+        wrong.push_str(" but ")?;
+        wrong.push_str(said.as_str())?;
+    }
+    Ok(())
+}
+
+fn try_rows(
+    wrong: &mut String,
+    alloc: Global,
+    classes: &mut LoadedClasses,
+    rows: &str,
+) -> Result<(), AllocError> {
+    for row in rows.lines() {
+        try_row(wrong, alloc, classes, row)?;
+    }
+    Ok(())
+}
+
+// The rows `CALL = ANSWER` that are wrong.
+fn wrong_rows(alloc: Global, rows: &str) -> Result<String, AllocError> {
+    let mut wrong = String::new(alloc);
+    let mut classes = LoadedClasses::new(alloc);
+    push_lines(alloc, &mut classes, CLASSES)?;
+    try_rows(&mut wrong, alloc, &mut classes, rows)?;
+    Ok(wrong)
+}
+
+#[test]
+fn a_pool_has_its_texts_and_a_load_finds_what_its_loader_sees(rt: HostRuntime) -> Result<(), Fail> {
+    let rows = "entry A 9 = Utf8 x
+entry A 6 = Class J
+entry A 0 = unusable
+entry A 14 = unusable
+load A app = 4
+load A platform = not found
+load J platform = 2
+load J boot = not found
+load C app = not found";
+    assert_eq!(rt; wrong_rows(rt.alloc(), rows)?.as_str(), "");
+    Ok(())
+}
+
 #[test]
 fn cache_words_are_kept(rt: HostRuntime) -> Result<(), Fail> {
-    let mut classes = loaded(rt.alloc(), CLASSES)?;
-    let a = classes.find_loaded(b"A").ok_or("no A")?;
-    let b = classes.find_loaded(b"B").ok_or("no B")?;
-    let a_is_set = set(&mut classes, a, 1, 5);
-    let b_is_set = set(&mut classes, b, 1, u64::MAX);
-    let words = [
-        classes.cache(a, 1),
-        classes.cache(b, 1),
-        classes.cache(a, 2),
-    ];
-    let link = classes.link(a);
-    assert_eq!(rt; words, [5, u64::MAX, 0]);
-    assert!(rt; a_is_set && b_is_set && link == Ok(None));
+    let rows = "set A 5 = set
+set B 18446744073709551615 = set
+word A 1 = 5
+word B 1 = 18446744073709551615
+word A 2 = 0
+link A = linked";
+    assert_eq!(rt; wrong_rows(rt.alloc(), rows)?.as_str(), "");
     Ok(())
 }
