@@ -7,10 +7,6 @@ mod fresh;
 mod library;
 mod loading;
 mod readings;
-#[cfg(test)]
-mod tests;
 mod under_way;
-#[cfg(test)]
-mod worlds;
 
 pub use fresh::Fresh;
