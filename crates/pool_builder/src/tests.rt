@@ -2,26 +2,24 @@ use crate::{PoolBuilder, pools_are_built, pools_grow};
 use asm_text::{Constant, LineFault, MemberKind, MemberName};
 use class_tree::PoolEntry;
 use sqlite_items::Items;
-use std::alloc::Global;
-use std::process::Abort;
-use std::test::Fail;
+use std::alloc::{AllocError, Global};
 
-// What is needed of a new pool, behind the index that is answered.
-static NEEDS: &str = "2 class A
-4 class java/lang/Object
-8 field A f I
-14 method B m ()V
-15 interface B m ()V
-14 method B m ()V
-16 integer -2
-16 integer -2
-17 long -1
-19 string A
-2 class_constant A
-21 class_constant [I
-1 text A
-22 long 4294967294
-24 integer 5
+// What is needed of a new pool, and the index that is answered.
+static NEEDS: &str = "class A = 2
+class java/lang/Object = 4
+field A f I = 8
+method B m ()V = 14
+interface B m ()V = 15
+method B m ()V = 14
+integer -2 = 16
+integer -2 = 16
+long -1 = 17
+string A = 19
+class_constant A = 2
+class_constant [I = 21
+text A = 1
+long 4294967294 = 22
+integer 5 = 24
 ";
 
 // The entries that this makes, by their tags, each with its text, its number or its indices. An unusable one has tag 0.
@@ -53,77 +51,95 @@ static ENTRIES: &str = "0 0 0
 ";
 
 // What is needed of a pool with one index left: a text is put in, though the class that it is for has no room.
-static LAST_NEEDS: &str = "no long 7
-no class K
-65534 text K
-no integer 7
-24930 text aa
+static LAST_NEEDS: &str = "long 7 = no
+class K = no
+text K = 65534
+integer 7 = no
+text aa = 24930
 ";
 
-fn items(alloc: Global, text: &str) -> Result<Items<u8>, Fail> {
-    Ok(Items::from_slice(alloc, text.as_bytes())?)
-}
+// What is needed of a new pool, for texts of so many bytes.
+static LONG_NEEDS: &str = "bytes 65535 = 1
+bytes 65536 = no
+";
 
-fn constant_of(alloc: Global, kind: &str, text: &str) -> Result<Constant, Fail> {
-    match kind {
-        "integer" => Ok(Constant::Integer(text.parse::<i32>()?)),
-        "long" => Ok(Constant::Long(text.parse::<i64>()?)),
-        "string" => Ok(Constant::Text(items(alloc, text)?)),
-        "class_constant" => Ok(Constant::Class(items(alloc, text)?)),
-        _ => Err(Fail::from("no such constant")),
+// ---- what is needed
+
+fn items(alloc: Global, text: &str) -> Items<u8> {
+    match Items::from_slice(alloc, text.as_bytes()) {
+        Ok(items) => items,
+        Err(_) => Items::new(alloc),
     }
 }
 
-fn kind_of(kind: &str) -> Result<MemberKind, Fail> {
+fn constant_of(alloc: Global, kind: &str, text: &str) -> Constant {
     match kind {
-        "field" => Ok(MemberKind::Field),
-        "method" => Ok(MemberKind::Method),
-        "interface" => Ok(MemberKind::InterfaceMethod),
-        _ => Err(Fail::from("no such kind")),
+        "integer" => Constant::Integer(text.parse::<i32>().unwrap_or(0)),
+        "long" => Constant::Long(text.parse::<i64>().unwrap_or(0)),
+        "string" => Constant::Text(items(alloc, text)),
+        _ => Constant::Class(items(alloc, text)),
     }
 }
 
-fn member_name(alloc: Global, words: &str) -> Result<MemberName, Fail> {
-    let (class, rest) = words.split_once(' ').ok_or("no name")?;
-    let (name, desc) = rest.split_once(' ').ok_or("no descriptor")?;
-    Ok(MemberName {
-        class: items(alloc, class)?,
-        name: items(alloc, name)?,
-        desc: items(alloc, desc)?,
-    })
+fn kind_of(kind: &str) -> MemberKind {
+    match kind {
+        "field" => MemberKind::Field,
+        "method" => MemberKind::Method,
+        _ => MemberKind::InterfaceMethod,
+    }
 }
 
-fn need(alloc: Global, pool: &mut PoolBuilder, line: &str) -> Result<Result<u16, LineFault>, Fail> {
-    let (word, rest) = line.split_once(' ').ok_or("no operand")?;
+fn member_name(alloc: Global, words: &str) -> MemberName {
+    let (class, rest) = words.split_once(' ').unwrap_or((words, ""));
+    let (name, desc) = rest.split_once(' ').unwrap_or((rest, ""));
+    MemberName {
+        class: items(alloc, class),
+        name: items(alloc, name),
+        desc: items(alloc, desc),
+    }
+}
+
+// A text of so many bytes.
+fn long_text(alloc: Global, count: &str) -> Items<u8> {
+    let mut text = Items::new(alloc);
+    for _ in 0..count.parse::<u32>().unwrap_or(0) {
+        let _kept = text.push(b'x');
+    }
+    text
+}
+
+fn need(alloc: Global, pool: &mut PoolBuilder, call: &str) -> Result<u16, LineFault> {
+    let (word, rest) = call.split_once(' ').unwrap_or((call, ""));
     match word {
-        "text" => Ok(pool.text(alloc, rest.as_bytes())),
-        "class" => Ok(pool.class(alloc, rest.as_bytes())),
+        "text" => pool.text(alloc, rest.as_bytes()),
+        "bytes" => pool.text(alloc, long_text(alloc, rest).as_slice()),
+        "class" => pool.class(alloc, rest.as_bytes()),
         "field" | "method" | "interface" => {
-            let member = member_name(alloc, rest)?;
-            Ok(pool.member(alloc, kind_of(word)?, &member))
+            pool.member(alloc, kind_of(word), &member_name(alloc, rest))
         }
-        _ => {
-            let constant = constant_of(alloc, word, rest)?;
-            Ok(pool.constant(alloc, &constant))
-        }
+        _ => pool.constant(alloc, &constant_of(alloc, word, rest)),
     }
 }
 
-fn line_holds(
-    rt: &impl Abort,
-    alloc: Global,
-    pool: &mut PoolBuilder,
-    line: &str,
-) -> Result<(), Fail> {
-    let (wanted, rest) = line.split_once(' ').ok_or("no index")?;
-    match need(alloc, pool, rest)? {
-        Ok(index) => assert_eq!(rt; index, wanted.parse::<u16>()?, "{line}"),
-        Err(fault) => {
-            assert_eq!(rt; fault, LineFault::Outside, "{line}");
-            assert_eq!(rt; wanted, "no", "{line}");
-        }
+// ---- what is said
+
+// Adds to what is said. Where memory runs out the text is short, and its row wrong.
+fn put(said: &mut String, text: &str) {
+    let _kept = said.push_str(text);
+}
+
+fn say_index(alloc: Global, said: &mut String, index: u16) {
+    if let Ok(text) = format!(in alloc; "{index}") {
+        put(said, text.as_str());
     }
-    Ok(())
+}
+
+fn say_need(alloc: Global, said: &mut String, pool: &mut PoolBuilder, call: &str) {
+    match need(alloc, pool, call) {
+        Ok(index) => say_index(alloc, said, index),
+        Err(LineFault::Outside) => put(said, "no"),
+        Err(LineFault::Memory) => put(said, "memory"),
+    }
 }
 
 // The tag of an entry with its number or its indices.
@@ -141,38 +157,130 @@ fn numbers_of(entry: &PoolEntry) -> (u8, u64, u16) {
     }
 }
 
-fn entry_line(alloc: Global, entry: &PoolEntry) -> Result<String, Fail> {
-    match entry {
-        PoolEntry::Utf8(text) => {
-            let text = str::from_utf8(text.as_slice())?;
-            Ok(format!(in alloc; "1 {text}\n")?)
-        }
-        _ => {
-            let (tag, first, second) = numbers_of(entry);
-            Ok(format!(in alloc; "{tag} {first} {second}\n")?)
-        }
+fn say_numbers(alloc: Global, said: &mut String, entry: &PoolEntry) {
+    let (tag, first, second) = numbers_of(entry);
+    if let Ok(text) = format!(in alloc; "{tag} {first} {second}") {
+        put(said, text.as_str());
     }
 }
 
+fn say_entry(alloc: Global, said: &mut String, entry: &PoolEntry) {
+    match entry {
+        PoolEntry::Utf8(text) => {
+            put(said, "1 ");
+            put(said, str::from_utf8(text.as_slice()).unwrap_or("no text"));
+        }
+        _ => say_numbers(alloc, said, entry),
+    }
+}
+
+// ---- what is wrong
+
+fn put_wrong(wrong: &mut String, row: &str, said: &str) -> Result<(), AllocError> {
+    wrong.push_str(row)?;
+    wrong.push_str(" but ")?;
+    wrong.push_str(said)
+}
+
+// Notes a row, a need of the pool, that isn't answered as wanted.
+fn put_need(
+    alloc: Global,
+    wrong: &mut String,
+    pool: &mut PoolBuilder,
+    row: &str,
+) -> Result<(), AllocError> {
+    let (call, wanted) = row.split_once(" = ").unwrap_or((row, "no answer"));
+    let mut said = String::new(alloc);
+    say_need(alloc, &mut said, pool, call);
+    if said.as_str() == wanted {
+        return Ok(());
+    }
+    put_wrong(wrong, row, said.as_str())
+}
+
+fn put_needs(
+    alloc: Global,
+    wrong: &mut String,
+    pool: &mut PoolBuilder,
+    rows: &str,
+) -> Result<(), AllocError> {
+    for row in rows.lines() {
+        put_need(alloc, wrong, pool, row)?;
+    }
+    Ok(())
+}
+
+// Notes an entry that isn't the wanted one.
+fn put_entry(
+    alloc: Global,
+    wrong: &mut String,
+    entry: &PoolEntry,
+    wanted: &str,
+) -> Result<(), AllocError> {
+    let mut said = String::new(alloc);
+    say_entry(alloc, &mut said, entry);
+    if said.as_str() == wanted {
+        return Ok(());
+    }
+    put_wrong(wrong, wanted, said.as_str())
+}
+
+fn put_entries(
+    alloc: Global,
+    wrong: &mut String,
+    entries: &[PoolEntry],
+    rows: &str,
+) -> Result<(), AllocError> {
+    for (entry, row) in entries.iter().zip(rows.lines()) {
+        put_entry(alloc, wrong, entry, row)?;
+    }
+    Ok(())
+}
+
+fn put_count(wrong: &mut String, count: usize, wanted: usize) -> Result<(), AllocError> {
+    if count == wanted {
+        return Ok(());
+    }
+    wrong.push_str("another number of entries")
+}
+
+// What is wrong of a pool where this is needed: its answers, its first entries, and their number.
+fn put_pool(
+    alloc: Global,
+    wrong: &mut String,
+    mut pool: PoolBuilder,
+    needs: &str,
+    entries: &str,
+    count: usize,
+) -> Result<(), AllocError> {
+    put_needs(alloc, wrong, &mut pool, needs)?;
+    let pool = pool.into_pool();
+    put_count(wrong, pool.entries().len(), count)?;
+    put_entries(alloc, wrong, pool.entries(), entries)
+}
+
+fn wrong_rows(
+    alloc: Global,
+    pool: PoolBuilder,
+    needs: &str,
+    entries: &str,
+    count: usize,
+) -> Result<String, AllocError> {
+    let mut wrong = String::new(alloc);
+    put_pool(alloc, &mut wrong, pool, needs, entries, count)?;
+    Ok(wrong)
+}
+
 #[test]
-fn parts_stand_first_and_equal_entries_are_shared(rt: HostRuntime) -> Result<(), Fail> {
-    let alloc = rt.alloc();
-    let mut pool = PoolBuilder::new(alloc)?;
-    for line in NEEDS.lines() {
-        line_holds(&rt, alloc, &mut pool, line)?;
-    }
-    let mut shown = String::new(alloc);
-    for entry in pool.into_pool().entries() {
-        shown.push_str(&entry_line(alloc, entry)?)?;
-    }
-    assert_eq!(rt; shown.as_str(), ENTRIES);
-    pools_grow();
-    pools_are_built();
+fn parts_stand_first_and_equal_entries_are_shared(rt: HostRuntime) -> Result<(), LineFault> {
+    let pool = PoolBuilder::new(rt.alloc())?;
+    let wrong = wrong_rows(rt.alloc(), pool, NEEDS, ENTRIES, 25)?;
+    assert_eq!(rt; wrong.as_str(), "");
     Ok(())
 }
 
 // A pool with one index left. Its texts are the numbers from 0 on in two bytes, so that `aa`, 0x6161, has index 0x6162.
-fn full_but_one(alloc: Global) -> Result<PoolBuilder, Fail> {
+fn full_but_one(alloc: Global) -> Result<PoolBuilder, LineFault> {
     let mut pool = PoolBuilder::new(alloc)?;
     for n in 0..65_533_u16 {
         pool.text(alloc, &n.to_be_bytes())?;
@@ -181,26 +289,23 @@ fn full_but_one(alloc: Global) -> Result<PoolBuilder, Fail> {
 }
 
 #[test]
-fn a_pool_has_at_most_65535_indices(rt: HostRuntime) -> Result<(), Fail> {
-    let alloc = rt.alloc();
-    let mut pool = full_but_one(alloc)?;
-    for line in LAST_NEEDS.lines() {
-        line_holds(&rt, alloc, &mut pool, line)?;
-    }
-    assert_eq!(rt; pool.into_pool().entries().len(), 65_535);
+fn a_pool_has_at_most_65535_indices(rt: HostRuntime) -> Result<(), LineFault> {
+    let pool = full_but_one(rt.alloc())?;
+    let wrong = wrong_rows(rt.alloc(), pool, LAST_NEEDS, "", 65_535)?;
+    assert_eq!(rt; wrong.as_str(), "");
     Ok(())
 }
 
 #[test]
-fn a_text_has_at_most_65535_bytes(rt: HostRuntime) -> Result<(), Fail> {
-    let alloc = rt.alloc();
-    let mut pool = PoolBuilder::new(alloc)?;
-    let mut text = Vec::new(alloc);
-    for _ in 0..65_535 {
-        text.push(b'x')?;
-    }
-    assert_eq!(rt; pool.text(alloc, &text)?, 1);
-    text.push(b'x')?;
-    assert_eq!(rt; pool.text(alloc, &text), Err(LineFault::Outside));
+fn a_text_has_at_most_65535_bytes(rt: HostRuntime) -> Result<(), LineFault> {
+    let pool = PoolBuilder::new(rt.alloc())?;
+    let wrong = wrong_rows(rt.alloc(), pool, LONG_NEEDS, "", 2)?;
+    assert_eq!(rt; wrong.as_str(), "");
     Ok(())
+}
+
+#[test]
+fn the_laws_stand(_rt: HostRuntime) {
+    pools_grow();
+    pools_are_built();
 }
