@@ -20,6 +20,3 @@ pub use laws::{
 pub use record::{
     Ask, ClassRecord, CodeRecord, FieldRecord, ItableRecord, MethodRecord, Named, PoolName, Tables,
 };
-
-#[cfg(test)]
-mod tests;

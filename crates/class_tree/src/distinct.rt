@@ -127,7 +127,7 @@ fn are_distinct_methods(
 ///
 /// `AllocError` comes where memory runs out.
 #[tactic(auto, unfolding(crate::specs::WellFormed::has_distinct_parts))]
-pub(crate) fn has_distinct_parts(alloc: Global, tree: &ClassTree) -> Result<bool, AllocError>
+pub fn has_distinct_parts(alloc: Global, tree: &ClassTree) -> Result<bool, AllocError>
     ensures { IfOk result (λ distinct. distinct ≡ well_formed.has_distinct_parts tree.now) }
 {
     let places = TextPlaces::new(alloc, tree.pool.entries())?;

@@ -18,6 +18,7 @@ mod tree;
 mod well_formed;
 
 pub use constant_pool::{Pool, PoolEntry};
+pub use distinct::has_distinct_parts;
 pub use fault::FormatFault;
 pub use flags::has_flag;
 pub use laws::{
@@ -31,10 +32,3 @@ pub use text_kinds::{
 };
 pub use tree::{ClassTree, CodeTree, FieldTree, Handler, MethodTree};
 pub use well_formed::is_well_formed;
-
-#[cfg(test)]
-mod distinct_tests;
-#[cfg(test)]
-mod test_pools;
-#[cfg(test)]
-mod tests;

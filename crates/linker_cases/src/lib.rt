@@ -5,6 +5,10 @@
 #[cfg(test)]
 mod files;
 #[cfg(test)]
+mod record_tests;
+#[cfg(test)]
+mod start_tests;
+#[cfg(test)]
 mod tests;
 #[cfg(test)]
 mod worlds;

@@ -10,6 +10,3 @@ mod starting;
 pub use class_list::load_list;
 pub use required::required_name;
 pub use starting::{Start, start_run};
-
-#[cfg(test)]
-mod tests;

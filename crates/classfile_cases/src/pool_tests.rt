@@ -1,6 +1,6 @@
 // What no contract says: that a pool is read where memory suffices. And pools on both sides of each rule.
 use crate::test_pools::POOLS;
-use crate::{FormatFault, PoolEntry, one_pool, read_pool};
+use class_tree::{FormatFault, PoolEntry, one_pool, read_pool};
 use jsa_base::Cursor;
 use std::alloc::{AllocError, Global};
 use std::test::Fail;

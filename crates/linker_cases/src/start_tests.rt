@@ -1,7 +1,7 @@
 // The names of the required classes.
-use crate::required_name;
 use std::alloc::{AllocError, Global};
 use std::test::Fail;
+use vm_start::required_name;
 
 fn name_of(number: &str) -> &'static str {
     let number = number.parse::<u32>().unwrap_or(1);

@@ -1,8 +1,6 @@
 // Trees on both sides of each rule, and one whose methods all have one long name.
-use crate::constant_pool::{Pool, PoolEntry};
-use crate::distinct::has_distinct_parts;
-use crate::tests::tell_wrong;
-use crate::tree::{ClassTree, FieldTree, MethodTree};
+use crate::pool_tests::tell_wrong;
+use class_tree::{ClassTree, FieldTree, MethodTree, Pool, PoolEntry, has_distinct_parts};
 use sqlite_items::Items;
 use std::alloc::{AllocError, Global};
 use std::test::Fail;

@@ -1,5 +1,5 @@
 // Names of throwables, which classes a loader sees, and each law once.
-use crate::{
+use class_record::{
     JavaFault, ancestors_agree, links_by_levels, loads_again, loads_alike, loads_by_levels,
     orders_grow, readings_are_spelled, sees,
 };
