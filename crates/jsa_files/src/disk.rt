@@ -185,9 +185,10 @@ fn make_folders<R: std::rt::Files>(rt: &R, path: &str) -> Result<(), FilesFault>
     }
 }
 
-/// Reads to the end. More than `MAX_FILE` bytes are only counted, and `TooLarge` has the size of all
-/// that the reader had left.
-pub(crate) fn read_whole<F: Read>(file: &mut F, alloc: Global) -> Result<Vec<u8>, FilesFault>
+/// Reads to the end, and hands out what the reader had left. More than `MAX_FILE` bytes are only counted: the answer is
+/// then `TooLarge` with the size of all of them. An `Err` of the reader ends this, as `Memory` where its kind is
+/// `OutOfMemory`, and else as `Failed`, which no store counts. `TooMany` never comes.
+pub fn read_whole<F: Read>(file: &mut F, alloc: Global) -> Result<Vec<u8>, FilesFault>
     ensures size { KeepsWhole result }
     ensures bytes { GivesWhole (F.remaining file.old) result }
 {
@@ -206,9 +207,9 @@ pub(crate) fn read_whole<F: Read>(file: &mut F, alloc: Global) -> Result<Vec<u8>
     }
 }
 
-/// Reads to the end and hashes. More than `MAX_FILE` bytes are only counted, and `TooLarge` has the
-/// size of all that the reader had left.
-pub(crate) fn digest_whole<F: Read>(file: &mut F) -> Result<Stamp, FilesFault>
+/// Reads to the end and hashes: the size in bytes and the SHA-256 of what the reader had left. More than `MAX_FILE` bytes
+/// are only counted, and faults come as from `read_whole`. This takes no memory, so `Memory` comes from the reader alone.
+pub fn digest_whole<F: Read>(file: &mut F) -> Result<Stamp, FilesFault>
     ensures size { StampsWhole result }
     ensures stamp { GivesStamp (F.remaining file.old) result }
 {

@@ -10,8 +10,6 @@
 mod disk;
 mod disk_listing;
 mod fault;
-#[cfg(test)]
-mod file_tests;
 mod files;
 mod listing;
 mod memory;
@@ -21,10 +19,8 @@ mod plan;
 mod sink;
 mod stamp;
 mod std_sink;
-#[cfg(test)]
-mod tests;
 
-pub use disk::DiskFiles;
+pub use disk::{DiskFiles, digest_whole, read_whole};
 pub use fault::{FilesFault, SinkFault};
 pub use files::Files;
 pub use memory::MemoryFiles;

@@ -5,7 +5,7 @@ use Rattle.jsa_files.specs.declared.fault.FilesFault.TheVariants as files
 use Rattle.jsa_files.specs.Plans.{Plan, no_plan, with_failure, due, counted, FailsWhereDue}
 use Rattle.jsa_files.specs.Store.{ReadAnswer}
 use Rattle.jsa_files.specs.Memory.{StoreState, faults_after, after_read}
-use Rattle.jsa_files.proofs.tests.after_a_planned_failure.Goals as goal
+use Rattle.files_cases.proofs.count_tests.after_a_planned_failure.Goals as goal
 
 first_due : due (with_failure no_plan 1 0) ≡ Some 0
 first_due = get-insert nat_cmp_total empty 1 0 1
