@@ -33,29 +33,6 @@ fn say(alloc: Global, said: &mut String, bytes: &[u8]) -> Result<(), AllocError>
     }
 }
 
-fn try_class(
-    alloc: Global,
-    wrong: &mut String,
-    row: &str,
-    bytes: &[u8],
-    wanted: &str,
-) -> Result<(), AllocError> {
-    let mut said = String::new(alloc);
-    say(alloc, &mut said, bytes)?;
-    tell_wrong(wrong, row, said.as_str(), wanted)
-}
-
-// The sizes of the fronts that are something else than no class.
-fn wrong_fronts(alloc: Global, bytes: &[u8]) -> Result<String, AllocError> {
-    let mut wrong = String::new(alloc);
-    for size in 0..bytes.len() {
-        if letter_of(alloc, &bytes[..size]) != "n" {
-            wrong.push_str(format!(in alloc; "{size} ")?.as_str())?;
-        }
-    }
-    Ok(wrong)
-}
-
 // The least class: A under java/lang/Object.
 const UNIT: [u8; 53] = [
     202, 254, 186, 190, 0, 0, 0, 52, 0, 5, 1, 0, 1, 65, 7, 0, 1, 1, 0, 16, 106, 97, 118, 97, 47,
@@ -63,70 +40,36 @@ const UNIT: [u8; 53] = [
     0, 0,
 ];
 
-// The version, the flags, the class and its superclass, the entries of the pool, and how many interfaces, fields and
-// methods there are.
-static UNIT_SHOWN: &str = "52 33 2 4
-unusable
-utf8 A
-class 1
-utf8 java/lang/Object
-class 3
-0 (0, 0)";
-
 // ---- the least class
 
 fn push_entry(alloc: Global, shown: &mut String, entry: &PoolEntry) -> Result<(), AllocError> {
     match entry {
-        PoolEntry::Unusable => shown.push_str("\nunusable"),
-        PoolEntry::Class(name) => shown.push_str(format!(in alloc; "\nclass {name}")?.as_str()),
+        PoolEntry::Unusable => shown.push_str("; unusable"),
+        PoolEntry::Class(name) => shown.push_str(format!(in alloc; "; class {name}")?.as_str()),
         PoolEntry::Utf8(text) => {
-            shown.push_str("\nutf8 ")?;
+            shown.push_str("; utf8 ")?;
             shown.push_str(str::from_utf8(text.as_slice()).unwrap_or("?"))
         }
-        _ => shown.push_str("\nanother"),
+        _ => shown.push_str("; another"),
     }
 }
 
-fn push_tree(alloc: Global, shown: &mut String, tree: &ClassTree) -> Result<(), AllocError> {
+fn say_tree(alloc: Global, shown: &mut String, tree: &ClassTree) -> Result<(), AllocError> {
     let head = format!(in alloc; "{} {} {} {}", tree.major, tree.flags, tree.this, tree.sup)?;
     shown.push_str(head.as_str())?;
     for entry in tree.pool.entries() {
         push_entry(alloc, shown, entry)?;
     }
     let members = (tree.fields.len(), tree.methods.len());
-    let counts = format!(in alloc; "\n{} {members:?}", tree.interfaces.len())?;
+    let counts = format!(in alloc; "; {} {members:?}", tree.interfaces.len())?;
     shown.push_str(counts.as_str())
 }
 
 fn push_read(alloc: Global, shown: &mut String, bytes: &[u8]) -> Result<(), AllocError> {
     match read_class(alloc, bytes) {
-        Ok(tree) => push_tree(alloc, shown, &tree),
+        Ok(tree) => say_tree(alloc, shown, &tree),
         Err(_) => shown.push_str("no class"),
     }
-}
-
-#[test]
-fn the_least_class_is_read(rt: HostRuntime) -> Result<(), Fail> {
-    let mut shown = String::new(rt.alloc());
-    push_read(rt.alloc(), &mut shown, &UNIT)?;
-    assert_eq!(rt; shown.as_str(), UNIT_SHOWN);
-    Ok(())
-}
-
-#[test]
-fn a_cut_class_is_none(rt: HostRuntime) -> Result<(), Fail> {
-    assert_eq!(rt; wrong_fronts(rt.alloc(), &UNIT)?.as_str(), "");
-    Ok(())
-}
-
-#[test]
-fn version_53_is_answered(rt: HostRuntime) -> Result<(), Fail> {
-    let mut bytes = UNIT;
-    bytes[7] = 0x35;
-    let mut said = String::new(rt.alloc());
-    say(rt.alloc(), &mut said, &bytes)?;
-    assert_eq!(rt; said.as_str(), "0.53");
-    Ok(())
 }
 
 // ---- a compiled class
@@ -159,20 +102,6 @@ fn push_counts_read(alloc: Global, counts: &mut String, bytes: &[u8]) -> Result<
     }
 }
 
-#[test]
-fn a_compiled_class_is_read(rt: HostRuntime) -> Result<(), Fail> {
-    let mut counts = String::new(rt.alloc());
-    push_counts_read(rt.alloc(), &mut counts, &HELLO)?;
-    assert_eq!(rt; counts.as_str(), "52 27 (5, 1, 1) (9, 2, 1)");
-    Ok(())
-}
-
-#[test]
-fn a_cut_compiled_class_is_none(rt: HostRuntime) -> Result<(), Fail> {
-    assert_eq!(rt; wrong_fronts(rt.alloc(), &HELLO)?.as_str(), "");
-    Ok(())
-}
-
 // A letter for what is read of the bytes.
 fn letter_of(alloc: Global, bytes: &[u8]) -> &'static str {
     match read_class(alloc, bytes) {
@@ -193,28 +122,22 @@ fn changed(byte: u8, way: usize) -> u8 {
 }
 
 // The letters of HELLO where each byte in turn is another.
-fn letters_of(alloc: Global, way: usize) -> Result<String, AllocError> {
-    let mut letters = String::new(alloc);
+fn say_letters(alloc: Global, said: &mut String, way: usize) -> Result<(), AllocError> {
     for place in 0..HELLO.len() {
         let mut bytes = HELLO;
         bytes[place] = changed(bytes[place], way);
-        letters.push_str(letter_of(alloc, &bytes))?;
+        said.push_str(letter_of(alloc, &bytes))?;
     }
-    Ok(letters)
+    Ok(())
 }
 
-fn wrong_changes(alloc: Global, lines: &str) -> Result<String, AllocError> {
-    let mut wrong = String::new(alloc);
-    for (way, wanted) in lines.lines().enumerate() {
-        let letters = letters_of(alloc, way)?;
-        tell_wrong(&mut wrong, wanted, letters.as_str(), wanted)?;
+// The sizes of the fronts that are something else than no class.
+fn say_fronts(alloc: Global, said: &mut String, bytes: &[u8]) -> Result<(), AllocError> {
+    for size in 0..bytes.len() {
+        if letter_of(alloc, &bytes[..size]) != "n" {
+            said.push_str(format!(in alloc; "{size} ")?.as_str())?;
+        }
     }
-    Ok(wrong)
-}
-
-#[test]
-fn each_byte_of_a_compiled_class_counts(rt: HostRuntime) -> Result<(), Fail> {
-    assert_eq!(rt; wrong_changes(rt.alloc(), CHANGED)?.as_str(), "");
     Ok(())
 }
 
@@ -302,28 +225,6 @@ fn push_class(alloc: Global, bytes: &mut Vec<u8>, words: &str) -> Result<(), All
     push_words(alloc, bytes, behind)
 }
 
-fn try_row(alloc: Global, wrong: &mut String, row: &str) -> Result<(), AllocError> {
-    let (shown, words) = row.split_once("; ").unwrap_or((row, ""));
-    let (wanted, _) = shown.split_once(' ').unwrap_or((row, ""));
-    let mut class = Vec::new(alloc);
-    push_class(alloc, &mut class, words)?;
-    try_class(alloc, wrong, row, &class, wanted)
-}
-
-fn wrong_rows(alloc: Global, rows: &str) -> Result<String, AllocError> {
-    let mut wrong = String::new(alloc);
-    for row in rows.lines() {
-        try_row(alloc, &mut wrong, row)?;
-    }
-    Ok(wrong)
-}
-
-#[test]
-fn each_line_of_the_table_holds(rt: HostRuntime) -> Result<(), Fail> {
-    assert_eq!(rt; wrong_rows(rt.alloc(), CLASSES)?.as_str(), "");
-    Ok(())
-}
-
 // ---- each part of a member
 
 // A static field with a constant, and a method with a handler, frames and an attribute that is skipped.
@@ -331,31 +232,6 @@ static MEMBERS: &str = "00000034 0021 #cA #cObject 0001 #cB 0001
 0019 #f #I 0002 #Other 00000001 ff #ConstantValue 00000002 #int 0001
 0009 #m #()V 0001 #Code 00000027 0003 0004 00000002 00 b1 0001 0000 0001 0001 #cB
 0002 #StackMapTable 00000003 0a 0b 0c #Other 00000002 01 02 0000";
-
-static MEMBERS_SHOWN: &str =
-    "[FieldTree { flags: 25, name: 12, desc: 29, value: 46 }] [MethodTree { flags: 9, name: 11, desc: 13, code: Some(CodeTree { stack: 3, locals: 4, bytes: Items { items: [0, 177] }, handlers: Items { items: [Handler { start: 0, end: 1, handler: 1, catch: 6 }] }, map: Some(Items { items: [10, 11, 12] }) }) }]";
-
-fn members_of(alloc: Global, bytes: &[u8]) -> Result<String, FormatFault> {
-    let tree = read_class(alloc, bytes)?;
-    Ok(format!(in alloc;
-        "{:?} {:?}",
-        tree.fields.as_slice(),
-        tree.methods.as_slice()
-    )?)
-}
-
-fn members_shown(alloc: Global, words: &str) -> Result<String, FormatFault> {
-    let mut class = Vec::new(alloc);
-    push_class(alloc, &mut class, words)?;
-    members_of(alloc, &class)
-}
-
-#[test]
-fn each_part_of_a_member_is_kept(rt: HostRuntime) -> Result<(), Fail> {
-    let shown = members_shown(rt.alloc(), MEMBERS)?;
-    assert_eq!(rt; shown.as_str(), MEMBERS_SHOWN);
-    Ok(())
-}
 
 // ---- as many as there can be
 
@@ -374,20 +250,15 @@ fn push_integers(bytes: &mut Vec<u8>) -> Result<(), AllocError> {
     bytes.extend_from_slice(&UNIT[39..])
 }
 
-// How many entries and how many methods are read, and none where there is no class.
-fn sizes_read(alloc: Global, bytes: &[u8]) -> (usize, usize) {
+// How many entries and how many methods are read.
+fn say_sizes(alloc: Global, said: &mut String, bytes: &[u8]) -> Result<(), AllocError> {
     match read_class(alloc, bytes) {
-        Ok(tree) => (tree.pool.entries().len(), tree.methods.len()),
-        Err(_) => (0, 0),
+        Ok(tree) => {
+            let sizes = (tree.pool.entries().len(), tree.methods.len());
+            said.push_str(format!(in alloc; "{sizes:?}")?.as_str())
+        }
+        Err(_) => said.push_str("no class"),
     }
-}
-
-#[test]
-fn a_pool_may_have_65534_entries(rt: HostRuntime) -> Result<(), Fail> {
-    let mut bytes = Vec::new(rt.alloc());
-    push_integers(&mut bytes)?;
-    assert_eq!(rt; sizes_read(rt.alloc(), &bytes).0, 65_535);
-    Ok(())
 }
 
 // Two letters, others for each number.
@@ -435,14 +306,6 @@ fn push_full_class(bytes: &mut Vec<u8>) -> Result<(), AllocError> {
     bytes.extend_from_slice(&[0, 0])
 }
 
-#[test]
-fn a_class_may_have_65535_methods(rt: HostRuntime) -> Result<(), Fail> {
-    let mut bytes = Vec::new(rt.alloc());
-    push_full_class(&mut bytes)?;
-    assert_eq!(rt; sizes_read(rt.alloc(), &bytes).1, 65_535);
-    Ok(())
-}
-
 // A code of so many bytes, all of them return, and what stands behind it in a class.
 fn push_code(bytes: &mut Vec<u8>, size: u32) -> Result<(), AllocError> {
     bytes.extend_from_slice(&size.saturating_add(12).to_be_bytes())?;
@@ -454,23 +317,134 @@ fn push_code(bytes: &mut Vec<u8>, size: u32) -> Result<(), AllocError> {
     bytes.extend_from_slice(&[0, 0, 0, 0, 0, 0])
 }
 
-// A class with a static method of so many bytes of code.
-fn try_size(alloc: Global, wrong: &mut String, row: &str) -> Result<(), AllocError> {
-    let (size, wanted) = row.split_once(" = ").unwrap_or((row, ""));
-    let mut class = Vec::new(alloc);
-    push_class(alloc, &mut class, WITH_CODE)?;
-    push_code(&mut class, size.parse::<u32>().unwrap_or(0))?;
-    try_class(alloc, wrong, row, &class, wanted)
-}
-
 static WITH_CODE: &str = "00000034 0021 #cA #cObject 0000 0000 0001 0009 #m #()V 0001 #Code";
 
-#[test]
-fn a_code_may_have_65535_bytes(rt: HostRuntime) -> Result<(), Fail> {
-    let mut wrong = String::new(rt.alloc());
-    for row in ["65535 = yes", "65536 = no"] {
-        try_size(rt.alloc(), &mut wrong, row)?;
+// ---- rows
+
+// Of the members: all that is kept.
+fn say_members(alloc: Global, said: &mut String, bytes: &[u8]) -> Result<(), AllocError> {
+    match read_class(alloc, bytes) {
+        Ok(tree) => {
+            let fields = tree.fields.as_slice();
+            let methods = tree.methods.as_slice();
+            said.push_str(format!(in alloc; "{fields:?} {methods:?}")?.as_str())
+        }
+        Err(_) => said.push_str("no class"),
     }
-    assert_eq!(rt; wrong.as_str(), "");
+}
+
+fn push_with_code(alloc: Global, bytes: &mut Vec<u8>, size: &str) -> Result<(), AllocError> {
+    push_class(alloc, bytes, WITH_CODE)?;
+    push_code(bytes, size.parse::<u32>().unwrap_or(0))
+}
+
+fn push_version_53(bytes: &mut Vec<u8>) -> Result<(), AllocError> {
+    bytes.extend_from_slice(&UNIT[..7])?;
+    bytes.push(0x35)?;
+    bytes.extend_from_slice(&UNIT[8..])
+}
+
+fn push_made(
+    alloc: Global,
+    bytes: &mut Vec<u8>,
+    verb: &str,
+    words: &str,
+) -> Result<(), AllocError> {
+    match verb {
+        "members" => push_class(alloc, bytes, MEMBERS),
+        "entries" => push_integers(bytes),
+        "methods" => push_full_class(bytes),
+        "code" => push_with_code(alloc, bytes, words),
+        "version" => push_version_53(bytes),
+        _ => push_class(alloc, bytes, words),
+    }
+}
+
+// What is said of bytes that are made of the words.
+fn say_made(alloc: Global, said: &mut String, verb: &str, words: &str) -> Result<(), AllocError> {
+    let mut bytes = Vec::new(alloc);
+    push_made(alloc, &mut bytes, verb, words)?;
+    match verb {
+        "members" => say_members(alloc, said, &bytes),
+        "entries" | "methods" => say_sizes(alloc, said, &bytes),
+        _ => say(alloc, said, &bytes),
+    }
+}
+
+fn say_call(alloc: Global, said: &mut String, call: &str) -> Result<(), AllocError> {
+    let (verb, words) = call.split_once(' ').unwrap_or((call, ""));
+    match call {
+        "least class" => push_read(alloc, said, &UNIT),
+        "fronts of the least class" => say_fronts(alloc, said, &UNIT),
+        "compiled class" => push_counts_read(alloc, said, &HELLO),
+        "fronts of the compiled class" => say_fronts(alloc, said, &HELLO),
+        "bytes that are 0" => say_letters(alloc, said, 0),
+        "bytes that are 1" => say_letters(alloc, said, 1),
+        "bytes that are 255" => say_letters(alloc, said, 2),
+        "bytes that are one more" => say_letters(alloc, said, 3),
+        _ => say_made(alloc, said, verb, words),
+    }
+}
+
+fn try_call(
+    alloc: Global,
+    wrong: &mut String,
+    row: &str,
+    call: &str,
+    wanted: &str,
+) -> Result<(), AllocError> {
+    let mut said = String::new(alloc);
+    say_call(alloc, &mut said, call)?;
+    tell_wrong(wrong, row, said.as_str(), wanted)
+}
+
+// A row is `CALL = ANSWER`, or a line of the table.
+fn try_row(alloc: Global, wrong: &mut String, row: &str) -> Result<(), AllocError> {
+    if let Some((call, wanted)) = row.split_once(" = ") {
+        return try_call(alloc, wrong, row, call, wanted);
+    }
+    let (shown, _) = row.split_once(' ').unwrap_or((row, ""));
+    let (_, words) = row.split_once(";").unwrap_or((row, ""));
+    try_call(alloc, wrong, row, words, shown)
+}
+
+fn wrong_rows(alloc: Global, rows: &str) -> Result<String, AllocError> {
+    let mut wrong = String::new(alloc);
+    for row in rows.lines() {
+        try_row(alloc, &mut wrong, row)?;
+    }
+    Ok(wrong)
+}
+
+// Of the least class the version, the flags, the class and its superclass, the entries of the pool, and how many interfaces,
+// fields and methods there are; of the compiled class the version, the indices in use, and the sizes of each method's code,
+// stack and locals; of fronts those that are something else than no class.
+static ROWS: &str =
+    "least class = 52 33 2 4; unusable; utf8 A; class 1; utf8 java/lang/Object; class 3; 0 (0, 0)
+fronts of the least class = 
+version = 0.53
+compiled class = 52 27 (5, 1, 1) (9, 2, 1)
+fronts of the compiled class = 
+members = [FieldTree { flags: 25, name: 12, desc: 29, value: 46 }] [MethodTree { flags: 9, name: 11, desc: 13, code: Some(CodeTree { stack: 3, locals: 4, bytes: Items { items: [0, 177] }, handlers: Items { items: [Handler { start: 0, end: 1, handler: 1, catch: 6 }] }, map: Some(Items { items: [10, 11, 12] }) }) }]
+entries = (65535, 0)
+methods = (517, 65535)
+code 65535 = yes
+code 65536 = no";
+
+#[test]
+fn classes_are_read_whole(rt: HostRuntime) -> Result<(), Fail> {
+    assert_eq!(rt; wrong_rows(rt.alloc(), ROWS)?.as_str(), "");
+    Ok(())
+}
+
+#[test]
+fn each_byte_of_a_compiled_class_counts(rt: HostRuntime) -> Result<(), Fail> {
+    assert_eq!(rt; wrong_rows(rt.alloc(), CHANGED)?.as_str(), "");
+    Ok(())
+}
+
+#[test]
+fn each_line_of_the_table_holds(rt: HostRuntime) -> Result<(), Fail> {
+    assert_eq!(rt; wrong_rows(rt.alloc(), CLASSES)?.as_str(), "");
     Ok(())
 }
