@@ -4,8 +4,6 @@
 mod class_parts;
 mod class_reader;
 mod class_reading;
-#[cfg(test)]
-mod class_tests;
 mod fault;
 mod fitting;
 mod form;
@@ -13,10 +11,6 @@ mod instructions;
 mod name_reading;
 mod program;
 mod program_reading;
-#[cfg(test)]
-mod test_classes;
-#[cfg(test)]
-mod tests;
 mod tree_building;
 
 pub use class_reader::read_class;

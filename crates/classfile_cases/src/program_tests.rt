@@ -1,10 +1,10 @@
 // What no contract says: that a class of the first form is read where memory suffices.
-use crate::class_tests::tell_wrong;
-use crate::{
+use crate::pool_tests::tell_wrong;
+use class_tree::ClassTree;
+use classfile_reader::{
     FormFault, Program, each_class_is_named, one_name, one_program, read_class, read_name,
     read_program, tree_program,
 };
-use class_tree::ClassTree;
 use std::alloc::{AllocError, Global};
 use std::test::Fail;
 

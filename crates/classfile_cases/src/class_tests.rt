@@ -1,25 +1,10 @@
 // What no contract says: that a class is read where memory suffices. And classes on both sides of each rule.
-use crate::read_class;
+use crate::pool_tests::tell_wrong;
 use crate::test_classes::{CHANGED, CLASSES, HELLO, POOL};
 use class_tree::{ClassTree, CodeTree, FormatFault, MethodTree, PoolEntry};
+use classfile_reader::read_class;
 use std::alloc::{AllocError, Global};
 use std::test::Fail;
-
-/// Tells a row that is wrong, with what was said.
-pub fn tell_wrong(
-    wrong: &mut String,
-    row: &str,
-    said: &str,
-    wanted: &str,
-) -> Result<(), AllocError> {
-    if said != wanted {
-        wrong.push_str(row)?;
-        wrong.push_str(" but ")?;
-        wrong.push_str(said)?;
-        wrong.push_str("\n")?;
-    }
-    Ok(())
-}
 
 // What is read of the bytes: `yes`, `no` or the version.
 fn say(alloc: Global, said: &mut String, bytes: &[u8]) -> Result<(), AllocError> {
