@@ -4,6 +4,7 @@ ghost use Rattle.std.specs.Prelude.{◌≡◌, ◌<◌, length};
 use crate::LoadedClasses;
 use crate::test_classes::push_lines;
 use class_record::{ClassId, Classes, FieldFact, JavaFault, MethodFact, PoolFact};
+use class_tree::Handler;
 use loader_rules::Loader;
 use std::alloc::{AllocError, Global};
 use std::test::Fail;
@@ -15,17 +16,6 @@ app 2 1537;K 1 java/lang/Object 3 I 5; 6; ;
 app 2 33;A 1 java/lang/Object 3 J 5 K 7 x I s m ()V; 6 8; 2 9 10 0 8 11 10 7 2 10 10 0; 1 12 13 2 1 1025 9 13 0 0
 app 3 1537;M 1 java/lang/Object 3; ; ;
 app 4 32;B 1 A 3 M 5 z J; 6; 8 7 8 0 0 7 8 0;";
-
-// Of each class: its name, flags, loader and folder, its superclass, its direct superinterfaces, all of them, its fields,
-// each with descriptor, flags, slot and value, its methods, each with descriptor, flags, stack, locals, length of code and
-// the handler and the type of the first row, and its sizes.
-static FACTS: &str = "java/lang/Object 33 Boot 0 , , , , , 0 0 .
-I 1537 Boot 0 java/lang/Object , , , , , 0 0 .
-J 1537 Platform 1 java/lang/Object , I , I , , , 0 0 .
-K 1537 App 2 java/lang/Object , I , I , , , 0 0 .
-A 33 App 2 java/lang/Object , J K , I J K , x I 2 0 0 s I 8 0 7 I I 2 1 0 , m ()V 1 2 1 1 2 1 x ()V 1025 0 0 0 , 2 1 .
-M 1537 App 3 java/lang/Object , , , , , 0 0 .
-B 32 App 4 A , M , I J K M , z J 8 0 0 z J 0 2 0 , , 3 1 .";
 
 fn put(text: &mut String, word: &[u8]) -> Result<(), AllocError> {
     text.push_str(str::from_utf8(word).unwrap_or("?"))?;
@@ -117,6 +107,11 @@ fn put_method(text: &mut String, alloc: Global, method: MethodFact<'_>) -> Resul
     text.push_str(numbers.as_str())
 }
 
+fn put_handler(text: &mut String, alloc: Global, row: Handler) -> Result<(), AllocError> {
+    let row = format!(in alloc; "{} {} ", row.handler, row.catch)?;
+    text.push_str(row.as_str())
+}
+
 fn put_methods<C: Classes>(
     text: &mut String,
     alloc: Global,
@@ -130,13 +125,30 @@ fn put_methods<C: Classes>(
             put_method(text, alloc, method)?;
         }
         if let Some(row) = classes.handler(id, k, 0) {
-            let row = format!(in alloc; "{} {} ", row.handler, row.catch)?;
-            text.push_str(row.as_str())?;
+            put_handler(text, alloc, row)?;
         }
     }
     text.push_str(", ")
 }
 
+// Its fields, each with descriptor, flags, slot and value, its methods, each with descriptor, flags, stack, locals, length
+// of code and the handler and the type of the first row, and its sizes.
+fn put_members<C: Classes>(
+    text: &mut String,
+    alloc: Global,
+    classes: &C,
+    id: ClassId,
+) -> Result<(), AllocError>
+    requires { id.0 < length (C.classes classes.now) }
+{
+    put_fields(text, alloc, classes, id)?;
+    put_methods(text, alloc, classes, id)?;
+    let (instance_size, static_size) = classes.sizes(id);
+    let sizes = format!(in alloc; "{instance_size} {static_size} .")?;
+    text.push_str(sizes.as_str())
+}
+
+// The name, flags, loader and folder of a class, its superclass, its direct superinterfaces, all of them, and its members.
 fn put_facts<C: Classes>(
     text: &mut String,
     alloc: Global,
@@ -148,32 +160,19 @@ fn put_facts<C: Classes>(
     put_head(text, alloc, classes, id)?;
     put_bases(text, classes, id)?;
     put_superinterfaces(text, classes, id)?;
-    put_fields(text, alloc, classes, id)?;
-    put_methods(text, alloc, classes, id)?;
-    let (instance_size, static_size) = classes.sizes(id);
-    let sizes = format!(in alloc; "{instance_size} {static_size} .")?;
-    text.push_str(sizes.as_str())
+    put_members(text, alloc, classes, id)
 }
 
-// A line for each class.
-fn put_lines(text: &mut String, alloc: Global, classes: &LoadedClasses) -> Result<(), AllocError> {
-    for id in 0..classes.count() {
-        if id > 0 {
-            text.push_str("\n")?;
-        }
-        put_facts(text, alloc, classes, ClassId(id))?;
+fn say_facts(
+    said: &mut String,
+    alloc: Global,
+    classes: &LoadedClasses,
+    id: u16,
+) -> Result<(), AllocError> {
+    if u32::from(id) < classes.count() {
+        return put_facts(said, alloc, classes, ClassId(u32::from(id)));
     }
-    Ok(())
-}
-
-#[test]
-fn each_class_has_its_facts(rt: HostRuntime) -> Result<(), Fail> {
-    let mut classes = LoadedClasses::new(rt.alloc());
-    push_lines(rt.alloc(), &mut classes, CLASSES)?;
-    let mut facts = String::new(rt.alloc());
-    put_lines(&mut facts, rt.alloc(), &classes)?;
-    assert_eq!(rt; facts.as_str(), FACTS);
-    Ok(())
+    said.push_str("no class")
 }
 
 // ---- calls by the names of classes
@@ -287,6 +286,7 @@ fn say(
     let (verb, words) = call.split_once(' ').unwrap_or((call, ""));
     let (name, more) = words.split_once(' ').unwrap_or((words, ""));
     match verb {
+        "facts" => say_facts(said, alloc, classes, number(name)),
         "load" => say_load(said, alloc, classes, name, more),
         "set" => said.push_str(set_word(classes, name, more)),
         "link" => said.push_str(link_word(classes, name)),
@@ -324,18 +324,29 @@ fn try_rows(
     Ok(())
 }
 
+fn try_classes(wrong: &mut String, alloc: Global, rows: &str) -> Result<(), AllocError> {
+    let mut classes = LoadedClasses::new(alloc);
+    push_lines(alloc, &mut classes, CLASSES)?;
+    try_rows(wrong, alloc, &mut classes, rows)
+}
+
 // The rows `CALL = ANSWER` that are wrong.
 fn wrong_rows(alloc: Global, rows: &str) -> Result<String, AllocError> {
     let mut wrong = String::new(alloc);
-    let mut classes = LoadedClasses::new(alloc);
-    push_lines(alloc, &mut classes, CLASSES)?;
-    try_rows(&mut wrong, alloc, &mut classes, rows)?;
+    try_classes(&mut wrong, alloc, rows)?;
     Ok(wrong)
 }
 
 #[test]
-fn a_pool_has_its_texts_and_a_load_finds_what_its_loader_sees(rt: HostRuntime) -> Result<(), Fail> {
-    let rows = "entry A 9 = Utf8 x
+fn each_class_has_its_facts_and_is_found_by_its_loaders(rt: HostRuntime) -> Result<(), Fail> {
+    let rows = "facts 0 = java/lang/Object 33 Boot 0 , , , , , 0 0 .
+facts 1 = I 1537 Boot 0 java/lang/Object , , , , , 0 0 .
+facts 2 = J 1537 Platform 1 java/lang/Object , I , I , , , 0 0 .
+facts 3 = K 1537 App 2 java/lang/Object , I , I , , , 0 0 .
+facts 4 = A 33 App 2 java/lang/Object , J K , I J K , x I 2 0 0 s I 8 0 7 I I 2 1 0 , m ()V 1 2 1 1 2 1 x ()V 1025 0 0 0 , 2 1 .
+facts 5 = M 1537 App 3 java/lang/Object , , , , , 0 0 .
+facts 6 = B 32 App 4 A , M , I J K M , z J 8 0 0 z J 0 2 0 , , 3 1 .
+entry A 9 = Utf8 x
 entry A 6 = Class J
 entry A 0 = unusable
 entry A 14 = unusable
