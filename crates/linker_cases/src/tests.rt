@@ -191,6 +191,16 @@ fn try_rows(
     Ok(())
 }
 
+fn try_reads(
+    alloc: Global,
+    wrong: &mut String,
+    files: &MemoryFiles,
+    wanted: &str,
+) -> Result<(), AllocError> {
+    let said = format!(in alloc; "{} reads", files.reads().len())?;
+    tell_wrong(wrong, "reads", said.as_str(), wanted)
+}
+
 // The rows `CALL = ANSWER` that are wrong over a store. The first row is how many files were read in the end.
 fn try_store(
     alloc: Global,
@@ -200,10 +210,10 @@ fn try_store(
 ) -> Result<(), FilesFault> {
     let (reads, rows) = rows.split_once('\n').unwrap_or((rows, ""));
     let mut fresh = classes_of(alloc, files)?;
-    try_rows(alloc, wrong, &mut fresh, rows)?;
+    let tried = try_rows(alloc, wrong, &mut fresh, rows);
     let files = fresh.into_files();
-    let said = format!(in alloc; "{} reads", files.reads().len())?;
-    Ok(tell_wrong(wrong, "reads", said.as_str(), reads)?)
+    tried?;
+    Ok(try_reads(alloc, wrong, &files, reads)?)
 }
 
 fn wrong_rows(alloc: Global, files: MemoryFiles, rows: &str) -> Result<String, FilesFault> {

@@ -75,19 +75,19 @@ fn say_loads(
     Ok(())
 }
 
-// The paths that were read, without their ends.
+// The path without its end.
+fn read_name(path: &str) -> &str {
+    if path == "b/java/lang/Object.class" {
+        return "b/O";
+    }
+    path.strip_suffix(".class").unwrap_or(path)
+}
+
 fn say_reads(said: &mut String, files: &MemoryFiles) -> Result<(), AllocError> {
     said.push_str("|")?;
     for path in files.reads() {
-        let path = path.as_str();
-        said.push_str(if path == "b/java/lang/Object.class" {
-            " b/O"
-        } else {
-            " "
-        })?;
-        if path != "b/java/lang/Object.class" {
-            said.push_str(path.strip_suffix(".class").unwrap_or(path))?;
-        }
+        said.push_str(" ")?;
+        said.push_str(read_name(path.as_str()))?;
     }
     Ok(())
 }
@@ -100,8 +100,10 @@ fn say_world(
     loads: &str,
 ) -> Result<(), FilesFault> {
     let mut fresh = classes_of(alloc, files)?;
-    say_loads(alloc, said, &mut fresh, loads)?;
-    Ok(say_reads(said, &fresh.into_files())?)
+    let loaded = say_loads(alloc, said, &mut fresh, loads);
+    let files = fresh.into_files();
+    loaded?;
+    Ok(say_reads(said, &files)?)
 }
 
 fn say_row(alloc: Global, said: &mut String, row: &str) -> Result<(), FilesFault> {
