@@ -8,6 +8,3 @@ mod size;
 
 pub use dump::{MAX_ARCHIVE, MAX_CLASSES, dump_static, dumps_are_archives};
 pub use fault::DumpFault;
-
-#[cfg(test)]
-mod tests;

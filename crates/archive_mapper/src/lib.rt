@@ -9,8 +9,3 @@ mod plain;
 
 pub use laws::{archives_are_mapped, maps_as_one};
 pub use mapping::map;
-
-#[cfg(test)]
-mod test_bytes;
-#[cfg(test)]
-mod tests;

@@ -7,8 +7,6 @@ mod paths;
 mod program;
 mod request;
 mod running;
-#[cfg(test)]
-mod tests;
 
 pub use end::HomeEnd;
 pub use request::HomeRun;

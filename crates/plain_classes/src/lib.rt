@@ -12,6 +12,3 @@ pub use class::{PlainClass, class_in, classes_size, have_short_texts};
 pub use names::{are_distinct, are_named};
 pub use reading::read_classes;
 pub use writing::write_classes;
-
-#[cfg(test)]
-mod tests;

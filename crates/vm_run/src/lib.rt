@@ -11,10 +11,6 @@ mod plain;
 mod rows;
 mod running;
 mod stack;
-#[cfg(test)]
-mod test_rows;
-#[cfg(test)]
-mod tests;
 mod turns;
 
 pub use laws::a_fitting_program_exits;

@@ -1,5 +1,5 @@
 // What no contract says: the bytes of an archive, and that one is written where memory suffices.
-use crate::{DumpFault, dump_static, dumps_are_archives};
+use archive_dump::{DumpFault, dump_static, dumps_are_archives};
 use archive_header::{Manifest, read_manifest};
 use plain_classes::PlainClass;
 use sha2::{Digest, Sha256};

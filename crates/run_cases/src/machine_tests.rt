@@ -2,14 +2,13 @@
 ghost use Rattle.std.specs.Prelude.{◌≡◌, true, IfOk};
 ghost use Rattle.classfile_reader.specs.Program.{is_tested};
 
-use crate::machine::{ClassState, End, Machine};
-use crate::running::run;
 use crate::test_rows::PUTS;
 use classfile_reader::{Program, read_program};
 use jsa_files::MemorySink;
 use std::alloc::Global;
 use std::process::Abort;
 use std::test::Fail;
+use vm_run::{ClassState, End, Machine, run};
 
 // A class up to the low byte of the size of its pool.
 const HEAD: [u8; 9] = [202, 254, 186, 190, 0, 0, 0, 52, 0];

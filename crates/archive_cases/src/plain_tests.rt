@@ -1,5 +1,5 @@
 // What no contract says: the bytes of classes, and that they are read where memory suffices.
-use crate::{
+use plain_classes::{
     PlainClass, are_distinct, are_named, class_in, classes_size, have_short_texts, one_archive,
     read_classes, write_classes,
 };

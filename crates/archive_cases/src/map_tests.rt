@@ -1,7 +1,7 @@
 // What no contract says of mapping: that an archive is mapped where memory suffices, and each refusal at its edge.
 use crate::test_bytes::{archive_of, archive_with, bytes_of, class_file, header_for};
-use crate::{archives_are_mapped, map, maps_as_one};
 use archive_header::{Manifest, Refuse, read_manifest, write_header};
+use archive_mapper::{archives_are_mapped, map, maps_as_one};
 use plain_classes::{PlainClass, have_short_texts, write_classes};
 use sha2::{Digest, Sha256};
 use sqlite_items::Items;
