@@ -5,114 +5,77 @@ use crate::{
     is_method_name, is_mutf8, method_type, method_types_are_spelled, path_of, texts_are_spelled,
     utf16,
 };
-use std::alloc::Global;
-use std::process::Abort;
+use std::alloc::{AllocError, Global};
 use std::test::Fail;
 
-#[test]
-fn a_long_takes_two_slots(rt: HostRuntime) -> Result<(), Fail> {
-    let read = method_type(b"(IJ[Ljava/lang/String;)V").ok_or("no method type")?;
-    assert_eq!(rt; read.slots(), 4);
-    assert!(rt; read.result().is_none());
-    assert!(rt; matches!(read.param(0), Some(FieldType::Int)));
-    assert!(rt; matches!(read.param(1), Some(FieldType::Long)));
-    let Some(FieldType::Array(depth, element)) = read.param(2) else {
-        return Err(Fail::from("no array"));
-    };
-    assert_eq!(rt; depth, 1);
-    assert_eq!(rt; element, b"Ljava/lang/String;".as_slice());
-    assert!(rt; read.param(3).is_none());
-    method_types_are_spelled(b"(IJ[Ljava/lang/String;)V");
-    Ok(())
-}
-
-#[test]
-fn a_bracket_is_no_type(rt: HostRuntime) -> Result<(), Fail> {
-    assert!(rt; field_type(b"[").is_none());
-    let Some(FieldType::Class(name)) = field_type(b"Lp/K;") else {
-        return Err(Fail::from("no class"));
-    };
-    assert_eq!(rt; name, b"p/K".as_slice());
-    field_types_are_spelled(b"Lp/K;");
-    Ok(())
-}
-
-fn units_of(alloc: Global, text: &[u8]) -> Result<Vec<u16>, Fail> {
-    if !is_mutf8(text) {
-        return Err(Fail::from("no text"));
+fn push_bytes(digits: &str, bytes: &mut Vec<u8>) -> Result<(), AllocError> {
+    for byte in digits.split('.') {
+        bytes.push(u8::from_str_radix(byte, 16).unwrap_or(0))?;
     }
-    let units = utf16(alloc, text)?;
-    Ok(units)
-}
-
-#[test]
-fn each_form_spells_a_unit(rt: HostRuntime) -> Result<(), Fail> {
-    let one = units_of(rt.alloc(), &[0xC3, 0xA9])?;
-    assert_eq!(rt; one.as_slice(), [0x00E9].as_slice());
-    let text = [
-        0x41, 0xC0, 0x80, 0xDF, 0xBF, 0xE0, 0xA0, 0x80, 0xED, 0xA0, 0xBD, 0xEF, 0xBF, 0xBF,
-    ];
-    let units = units_of(rt.alloc(), &text)?;
-    assert_eq!(rt;
-        units.as_slice(),
-        [0x41, 0, 0x7FF, 0x800, 0xD83D, 0xFFFF].as_slice()
-    );
-    texts_are_spelled(&text);
     Ok(())
 }
 
-#[test]
-fn a_path_is_a_folder_a_name_and_a_suffix(rt: HostRuntime) -> Result<(), Fail> {
-    let path = path_of(rt.alloc(), "a", b"p/K")?.ok_or("no path")?;
-    assert_eq!(rt; path.as_str(), "a/p/K.class");
-    assert!(rt; path_of(rt.alloc(), "a", b"p/../K")?.is_none());
-    let pair = [0x70, 0x2F, 0xED, 0xA0, 0xBD, 0xED, 0xB8, 0x80, 0xC3, 0xA9];
-    let path = path_of(rt.alloc(), "", &pair)?.ok_or("no path")?;
-    assert_eq!(rt; path.as_str(), "/p/\u{1F600}\u{E9}.class");
-    Ok(())
-}
-
-// The bytes of a word: after a backslash the digits of bytes between dots, after `N*` a text N times, else its own.
-fn push_word(bytes: &mut Vec<u8>, word: &str) -> Result<(), Fail> {
-    if let Some(digits) = word.strip_prefix("\\") {
-        for byte in digits.split('.') {
-            bytes.push(u8::from_str_radix(byte, 16)?)?;
-        }
-        return Ok(());
-    }
+fn push_repeated(word: &str, bytes: &mut Vec<u8>) -> Result<(), AllocError> {
     let (count, text) = word.split_once('*').unwrap_or(("1", word));
-    for _ in 0..count.parse::<u16>()? {
+    for _ in 0..count.parse::<u16>().unwrap_or(0) {
         bytes.extend_from_slice(text.as_bytes())?;
     }
     Ok(())
 }
 
-fn push_type(bytes: &mut Vec<u8>, read: &FieldType<'_>) -> Result<(), Fail> {
-    match read {
-        FieldType::Byte => bytes.push(b'B')?,
-        FieldType::Char => bytes.push(b'C')?,
-        FieldType::Double => bytes.push(b'D')?,
-        FieldType::Float => bytes.push(b'F')?,
-        FieldType::Int => bytes.push(b'I')?,
-        FieldType::Long => bytes.push(b'J')?,
-        FieldType::Short => bytes.push(b'S')?,
-        FieldType::Boolean => bytes.push(b'Z')?,
-        FieldType::Class(name) => {
-            bytes.push(b'L')?;
-            bytes.extend_from_slice(name)?;
-            bytes.push(b';')?;
-        }
-        FieldType::Array(depth, element) => {
-            for _ in 0..*depth {
-                bytes.push(b'[')?;
-            }
-            bytes.extend_from_slice(element)?;
-        }
+// The bytes of a word: after a backslash the digits of bytes between dots, after `N*` a text N times, else its own.
+fn push_word(word: &str, bytes: &mut Vec<u8>) -> Result<(), AllocError> {
+    match word.strip_prefix("\\") {
+        Some(digits) => push_bytes(digits, bytes),
+        None => push_repeated(word, bytes),
     }
-    Ok(())
 }
 
-fn push_parameters(bytes: &mut Vec<u8>, read: &MethodType<'_>) -> Result<(), Fail> {
+fn bytes_of(alloc: Global, words: &str) -> Result<Vec<u8>, AllocError> {
+    let mut bytes = Vec::new(alloc);
+    for word in words.split(' ') {
+        push_word(word, &mut bytes)?;
+    }
+    Ok(bytes)
+}
+
+// The letter of a type that is no class and no array.
+fn letter(read: &FieldType<'_>) -> &'static str {
+    match read {
+        FieldType::Byte => "B",
+        FieldType::Char => "C",
+        FieldType::Double => "D",
+        FieldType::Float => "F",
+        FieldType::Int => "I",
+        FieldType::Long => "J",
+        FieldType::Short => "S",
+        FieldType::Boolean => "Z",
+        _ => "no letter",
+    }
+}
+
+fn push_class(bytes: &mut Vec<u8>, name: &[u8]) -> Result<(), AllocError> {
+    bytes.extend_from_slice(b"L")?;
+    bytes.extend_from_slice(name)?;
+    bytes.extend_from_slice(b";")
+}
+
+fn push_array(bytes: &mut Vec<u8>, depth: u8, element: &[u8]) -> Result<(), AllocError> {
+    for _ in 0..depth {
+        bytes.extend_from_slice(b"[")?;
+    }
+    bytes.extend_from_slice(element)
+}
+
+fn push_type(bytes: &mut Vec<u8>, read: &FieldType<'_>) -> Result<(), AllocError> {
+    match read {
+        FieldType::Class(name) => push_class(bytes, name),
+        FieldType::Array(depth, element) => push_array(bytes, *depth, element),
+        _ => bytes.extend_from_slice(letter(read).as_bytes()),
+    }
+}
+
+fn push_parameters(bytes: &mut Vec<u8>, read: &MethodType<'_>) -> Result<(), AllocError> {
     for k in 0..256 {
         let Some(parameter) = read.param(k) else {
             return Ok(());
@@ -122,67 +85,256 @@ fn push_parameters(bytes: &mut Vec<u8>, read: &MethodType<'_>) -> Result<(), Fai
     Ok(())
 }
 
-fn is_field_type(rt: &impl Abort, alloc: Global, bytes: &[u8]) -> Result<bool, Fail> {
+fn push_result(bytes: &mut Vec<u8>, read: &MethodType<'_>) -> Result<(), AllocError> {
+    match read.result() {
+        Some(result) => push_type(bytes, &result),
+        None => bytes.extend_from_slice(b"V"),
+    }
+}
+
+fn push_method(bytes: &mut Vec<u8>, read: &MethodType<'_>) -> Result<(), AllocError> {
+    bytes.extend_from_slice(b"(")?;
+    push_parameters(bytes, read)?;
+    bytes.extend_from_slice(b")")?;
+    push_result(bytes, read)
+}
+
+// `yes` where the type that was read is spelled as the bytes.
+fn spelled_word(again: &[u8], bytes: &[u8]) -> &'static str {
+    if again == bytes {
+        "yes"
+    } else {
+        "spelled otherwise"
+    }
+}
+
+fn field_word(alloc: Global, bytes: &[u8]) -> Result<&'static str, AllocError> {
     let Some(read) = field_type(bytes) else {
-        return Ok(false);
+        return Ok("no");
     };
     let mut again = Vec::new(alloc);
     push_type(&mut again, &read)?;
-    assert_eq!(rt; again.as_slice(), bytes);
-    Ok(true)
+    Ok(spelled_word(again.as_slice(), bytes))
 }
 
-fn is_method_type(rt: &impl Abort, alloc: Global, bytes: &[u8]) -> Result<bool, Fail> {
+fn method_word(alloc: Global, bytes: &[u8]) -> Result<&'static str, AllocError> {
     let Some(read) = method_type(bytes) else {
-        return Ok(false);
+        return Ok("no");
     };
-    assert!(rt; read.slots() <= 255);
+    if 255 < read.slots() {
+        return Ok("of too many slots");
+    }
     let mut again = Vec::new(alloc);
-    again.push(b'(')?;
-    push_parameters(&mut again, &read)?;
-    again.push(b')')?;
-    match read.result() {
-        Some(result) => push_type(&mut again, &result)?,
-        None => again.push(b'V')?,
-    }
-    assert_eq!(rt; again.as_slice(), bytes);
-    Ok(true)
+    push_method(&mut again, &read)?;
+    Ok(spelled_word(again.as_slice(), bytes))
 }
 
-fn passes(rt: &impl Abort, alloc: Global, test: &str, bytes: &[u8]) -> Result<bool, Fail> {
-    match test {
-        "text" => Ok(is_mutf8(bytes)),
-        "class" => Ok(is_class_name(bytes)),
-        "member" => Ok(is_member_name(bytes)),
-        "named" => Ok(is_method_name(bytes)),
-        "field" => is_field_type(rt, alloc, bytes),
-        "method" => is_method_type(rt, alloc, bytes),
-        "path" => Ok(path_of(alloc, "a", bytes)?.is_some()),
-        _ => Err(Fail::from("no such test")),
+fn path_word(alloc: Global, bytes: &[u8]) -> Result<&'static str, AllocError> {
+    match path_of(alloc, "a", bytes)? {
+        Some(_) => Ok("yes"),
+        None => Ok("no"),
     }
 }
 
-fn line_holds(rt: &impl Abort, alloc: Global, line: &str) -> Result<(), Fail> {
-    let mut words = line.split(' ');
-    let test = words.next().ok_or("no test")?;
-    let wanted = words.next().ok_or("no answer")?;
-    let mut bytes = Vec::new(alloc);
-    for word in words {
-        push_word(&mut bytes, word)?;
-    }
-    let answer = if passes(rt, alloc, test, &bytes)? {
-        "yes"
-    } else {
-        "no"
+fn name_word(test: &str, bytes: &[u8]) -> &'static str {
+    let passes = match test {
+        "text" => is_mutf8(bytes),
+        "class" => is_class_name(bytes),
+        "member" => is_member_name(bytes),
+        "named" => is_method_name(bytes),
+        _ => return "no such test",
     };
-    assert_eq!(rt; answer, wanted, "{line}");
-    Ok(())
+    if passes { "yes" } else { "no" }
+}
+
+fn test_word(alloc: Global, test: &str, bytes: &[u8]) -> Result<&'static str, AllocError> {
+    match test {
+        "field" => field_word(alloc, bytes),
+        "method" => method_word(alloc, bytes),
+        "path" => path_word(alloc, bytes),
+        _ => Ok(name_word(test, bytes)),
+    }
+}
+
+// The first word, and what stands behind its space.
+fn first_word(text: &str) -> (&str, &str) {
+    text.split_once(' ').unwrap_or((text, ""))
+}
+
+fn found_word(alloc: Global, test: &str, words: &str) -> Result<&'static str, AllocError> {
+    let bytes = bytes_of(alloc, words)?;
+    test_word(alloc, test, bytes.as_slice())
+}
+
+fn tell(row: &str, said: &str, wrong: &mut String) -> Result<(), AllocError> {
+    wrong.push_str(row)?;
+    wrong.push_str(" but ")?;
+    wrong.push_str(said)?;
+    wrong.push_str("\n")
+}
+
+fn try_line(alloc: Global, line: &str, wrong: &mut String) -> Result<(), AllocError> {
+    let (test, words) = first_word(line);
+    let (wanted, words) = first_word(words);
+    let found = found_word(alloc, test, words)?;
+    if found == wanted {
+        return Ok(());
+    }
+    tell(line, found, wrong)
+}
+
+fn wrong_lines(alloc: Global, lines: &str) -> Result<String, AllocError> {
+    let mut wrong = String::new(alloc);
+    for line in lines.lines() {
+        try_line(alloc, line, &mut wrong)?;
+    }
+    Ok(wrong)
 }
 
 #[test]
 fn each_line_of_the_table_holds(rt: HostRuntime) -> Result<(), Fail> {
-    for line in TABLE.lines() {
-        line_holds(&rt, rt.alloc(), line)?;
+    assert_eq!(rt; wrong_lines(rt.alloc(), TABLE)?.as_str(), "");
+    Ok(())
+}
+
+fn say_text(bytes: &[u8], said: &mut String) -> Result<(), AllocError> {
+    said.push_str(str::from_utf8(bytes).unwrap_or("no text"))
+}
+
+fn say_array(
+    alloc: Global,
+    depth: u8,
+    element: &[u8],
+    said: &mut String,
+) -> Result<(), AllocError> {
+    let text = format!(in alloc; "array {depth} ")?;
+    said.push_str(text.as_str())?;
+    say_text(element, said)
+}
+
+fn say_class(name: &[u8], said: &mut String) -> Result<(), AllocError> {
+    said.push_str("class ")?;
+    say_text(name, said)
+}
+
+fn say_type(
+    alloc: Global,
+    read: &Option<FieldType<'_>>,
+    said: &mut String,
+) -> Result<(), AllocError> {
+    match read {
+        None => said.push_str("none"),
+        Some(FieldType::Array(depth, element)) => say_array(alloc, *depth, element, said),
+        Some(FieldType::Class(name)) => say_class(name, said),
+        Some(read) => said.push_str(letter(read)),
     }
+}
+
+fn say_slots(alloc: Global, read: &MethodType<'_>, said: &mut String) -> Result<(), AllocError> {
+    let text = format!(in alloc; "{}", read.slots())?;
+    said.push_str(text.as_str())
+}
+
+fn say_method(
+    alloc: Global,
+    part: &str,
+    bytes: &[u8],
+    said: &mut String,
+) -> Result<(), AllocError> {
+    let Some(read) = method_type(bytes) else {
+        return said.push_str("no method type");
+    };
+    match part {
+        "slots" => say_slots(alloc, &read, said),
+        "result" => say_type(alloc, &read.result(), said),
+        place => say_type(alloc, &read.param(place.parse::<u32>().unwrap_or(0)), said),
+    }
+}
+
+fn say_units(alloc: Global, bytes: &[u8], said: &mut String) -> Result<(), AllocError> {
+    if !is_mutf8(bytes) {
+        return said.push_str("no text");
+    }
+    for unit in utf16(alloc, bytes)? {
+        said.push_str(&format!(in alloc; "{unit:x};")?)?;
+    }
+    Ok(())
+}
+
+fn say_path(
+    alloc: Global,
+    folder: &str,
+    bytes: &[u8],
+    said: &mut String,
+) -> Result<(), AllocError> {
+    match path_of(alloc, folder, bytes)? {
+        Some(path) => said.push_str(path.as_str()),
+        None => said.push_str("none"),
+    }
+}
+
+fn say(
+    alloc: Global,
+    verb: &str,
+    part: &str,
+    bytes: &[u8],
+    said: &mut String,
+) -> Result<(), AllocError> {
+    match verb {
+        "method" => say_method(alloc, part, bytes, said),
+        "field" => say_type(alloc, &field_type(bytes), said),
+        "units" => say_units(alloc, bytes, said),
+        "path" => say_path(alloc, part, bytes, said),
+        _ => said.push_str("no such verb"),
+    }
+}
+
+// A call is a verb, what is asked, and the words of its bytes.
+fn say_call(alloc: Global, call: &str, said: &mut String) -> Result<(), AllocError> {
+    let (verb, words) = first_word(call);
+    let (part, words) = first_word(words);
+    let bytes = bytes_of(alloc, words)?;
+    say(alloc, verb, part, bytes.as_slice(), said)
+}
+
+fn try_row(alloc: Global, row: &str, wrong: &mut String) -> Result<(), AllocError> {
+    let (call, wanted) = row.split_once(" = ").unwrap_or((row, "no answer"));
+    let mut said = String::new(alloc);
+    say_call(alloc, call, &mut said)?;
+    if said.as_str() == wanted {
+        return Ok(());
+    }
+    tell(row, said.as_str(), wrong)
+}
+
+fn wrong_rows(alloc: Global, rows: &str) -> Result<String, AllocError> {
+    let mut wrong = String::new(alloc);
+    for row in rows.lines() {
+        try_row(alloc, row, &mut wrong)?;
+    }
+    Ok(wrong)
+}
+
+// A long takes two slots; a bracket is no type; each form spells a unit; and a path is a folder, a name and a suffix.
+static ROWS: &str = "method slots (IJ[Ljava/lang/String;)V = 4
+method result (IJ[Ljava/lang/String;)V = none
+method 0 (IJ[Ljava/lang/String;)V = I
+method 1 (IJ[Ljava/lang/String;)V = J
+method 2 (IJ[Ljava/lang/String;)V = array 1 Ljava/lang/String;
+method 3 (IJ[Ljava/lang/String;)V = none
+field type [ = none
+field type Lp/K; = class p/K
+units of \\c3.a9 = e9;
+units of \\41.c0.80.df.bf.e0.a0.80.ed.a0.bd.ef.bf.bf = 41;0;7ff;800;d83d;ffff;
+path a p/K = a/p/K.class
+path a p/../K = none
+path  \\70.2f.ed.a0.bd.ed.b8.80.c3.a9 = /p/\u{1F600}\u{E9}.class";
+
+#[test]
+fn descriptors_texts_and_paths_are_told(rt: HostRuntime) -> Result<(), Fail> {
+    method_types_are_spelled(b"(IJ[Ljava/lang/String;)V");
+    field_types_are_spelled(b"Lp/K;");
+    texts_are_spelled(b"A\xC0\x80\xDF\xBF\xE0\xA0\x80\xED\xA0\xBD\xEF\xBF\xBF");
+    assert_eq!(rt; wrong_rows(rt.alloc(), ROWS)?.as_str(), "");
     Ok(())
 }
