@@ -1,282 +1,152 @@
 // Whole runs over homes, and the making of homes.
-use crate::archive_tests::{bytes_at, does, does_failing, found_at, reads_of};
-use crate::asm_tests::size_at;
-use jsa_command::{Ended, status};
-use crate::tests::{DIVIDES, PUTS_A_SUM, SHIFTS, run_words};
-use jsa_files::{Files, MemoryFiles};
+use crate::bench::{Bench, add_wrong, wrong_rows};
+use crate::calls::bytes_at;
 use std::alloc::Global;
-use std::process::Abort;
 use std::test::Fail;
-
-// The words of a run that lists its classes.
-const RUN: &str = "--home=h -XX:DumpLoadedClassList=l.txt -cp app Main";
-
-// How many calls of the store make a home: a write for each class, and one for the list.
-const CALLS: u64 = 55;
 
 // ---- homes
 
-// Makes the home `h` in a store.
-fn with_home(rt: &impl Abort, alloc: Global, files: MemoryFiles) -> Result<MemoryFiles, Fail> {
-    let done = run_words(alloc, &["--make-home", "h"], files)?;
-    assert_eq!(rt; done.ended, Ended::Exit(0));
-    Ok(done.files)
-}
-
-// The home `h`, and a class as the file of Main, where it has bytes.
-fn home_and_main(rt: &impl Abort, alloc: Global, class: &[u8]) -> Result<MemoryFiles, Fail> {
-    let mut files = with_home(rt, alloc, MemoryFiles::new(alloc))?;
-    if !class.is_empty() {
-        files.with("app/Main.class", class)?;
-    }
-    Ok(files)
-}
-
-fn text_at(alloc: Global, files: &mut MemoryFiles, path: &str) -> Result<String, Fail> {
-    let bytes = bytes_at(alloc, files, path)?;
-    Ok(String::from_str(alloc, str::from_utf8(&bytes)?)?)
-}
-
-fn count_below(alloc: Global, files: &mut MemoryFiles, folder: &str) -> Result<u32, Fail> {
-    match files.list(alloc, folder) {
-        Ok(names) => Ok(names.len()),
-        Err(_) => Err(Fail::from("not listed")),
-    }
-}
-
-// The text with an end of a line for each `~`.
-fn lines_of(alloc: Global, text: &str) -> Result<Vec<u8>, Fail> {
-    let mut lines = Vec::new(alloc);
-    for b in text.as_bytes() {
-        lines.push(if *b == b'~' { b'\n' } else { *b })?;
-    }
-    Ok(lines)
-}
-
-// The paths of the first boot classes of a list, each behind a space.
-fn boot_paths(alloc: Global, list: &str, count: usize) -> Result<String, Fail> {
-    let mut paths = String::new(alloc);
-    for name in list.lines().take(count) {
-        paths.push_str(" h/boot/")?;
-        paths.push_str(name)?;
-        paths.push_str(".class")?;
-    }
-    Ok(paths)
-}
-
-fn has_each_class(
-    rt: &impl Abort,
-    alloc: Global,
-    files: &mut MemoryFiles,
-    list: &str,
-) -> Result<(), Fail> {
-    for name in list.lines() {
-        let path = format!(in alloc; "h/boot/{name}.class")?;
-        let class = found_at(alloc, files, path.as_str());
-        assert!(rt; class.is_some(), "{name}");
-    }
-    Ok(())
-}
+static HOME: &str = "\
+run --make-home h = 0||
+reads = none
+count h = 54
+listed = 54
+run --home=h -XX:DumpLoadedClassList=l.txt -cp app E = 4||no main in E~
+there l.txt = no
+new
+run --home=none -cp app E = 3||no boot class java/lang/Object~
+reads = none";
 
 #[test]
 fn a_home_has_54_classes_and_their_list(rt: HostRuntime) -> Result<(), Fail> {
-    let alloc = rt.alloc();
-    let did = does(alloc, "--make-home h", MemoryFiles::new(alloc))?;
-    assert_eq!(rt; did.told.as_slice(), b"0||".as_slice());
-    let mut files = did.files;
-    assert_eq!(rt; files.reads().len(), 0);
-    let list = text_at(alloc, &mut files, "h/classlist")?;
-    assert_eq!(rt; list.lines().count(), 54);
-    assert!(rt; list.starts_with("java/lang/Object\n"));
-    has_each_class(&rt, alloc, &mut files, list.as_str())?;
-    assert_eq!(rt; count_below(alloc, &mut files, "h")?, 54);
+    let wrong = wrong_rows(rt.alloc(), HOME)?;
+    assert_eq!(rt; (wrong.as_str(), listed(rt.alloc())?), ("", 54));
     Ok(())
 }
 
-// Whether both stores hold the same bytes at the path of a class.
-fn is_same_class(
-    alloc: Global,
-    left: &mut MemoryFiles,
-    whole: &mut MemoryFiles,
-    name: &str,
-) -> Result<bool, Fail> {
-    let path = format!(in alloc; "h/boot/{name}.class")?;
-    let some = bytes_at(alloc, left, path.as_str())?;
-    let all = bytes_at(alloc, whole, path.as_str())?;
-    Ok(some.as_slice() == all.as_slice())
+fn with_home(alloc: Global) -> Result<Bench, Fail> {
+    let mut bench = Bench::new(alloc);
+    let mut wrong = String::new(alloc);
+    add_wrong(&mut bench, "home", &mut wrong)?;
+    Ok(bench)
 }
 
-// The first classes of the home are whole.
-fn has_first_classes(
-    rt: &impl Abort,
-    alloc: Global,
-    left: &mut MemoryFiles,
-    count: usize,
-) -> Result<(), Fail> {
-    let mut whole = with_home(rt, alloc, MemoryFiles::new(alloc))?;
-    let list = text_at(alloc, &mut whole, "h/classlist")?;
-    for name in list.lines().take(count) {
-        assert!(rt; is_same_class(alloc, left, &mut whole, name)?, "{name}");
+// How many lines the list of a home has that begins with java/lang/Object, and 0 for another.
+fn listed(alloc: Global) -> Result<usize, Fail> {
+    let mut bench = with_home(alloc)?;
+    let list = bytes_at(&mut bench, "h/classlist");
+    let list = str::from_utf8(&list)?;
+    Ok(if list.starts_with("java/lang/Object\n") {
+        list.lines().count()
+    } else {
+        0
+    })
+}
+
+fn is_same_class(left: &mut Bench, whole: &mut Bench, name: &str) -> Result<bool, Fail> {
+    let path = format!(in left.alloc; "h/boot/{name}.class")?;
+    let some = bytes_at(left, path.as_str());
+    let all = bytes_at(whole, path.as_str());
+    Ok(!all.is_empty() && some.as_slice() == all.as_slice())
+}
+
+// How many of the first classes of a home are those of a whole one.
+fn whole_classes(left: &mut Bench, count: usize) -> Result<u32, Fail> {
+    let mut whole = with_home(left.alloc)?;
+    let list = bytes_at(&mut whole, "h/classlist");
+    let mut same = 0u32;
+    for name in str::from_utf8(&list)?.lines().take(count) {
+        if is_same_class(left, &mut whole, name)? {
+            same = same.saturating_add(1);
+        }
+    }
+    Ok(same)
+}
+
+// The making of a home whose call of a number fails behind so many bytes: how many class files and how many bytes of the
+// list it leaves, and how many of the classes before the call are whole.
+static UNMADE: &str = "\
+1 0 = 1 0 0
+2 3 = 2 0 1
+55 10 = 54 10 54";
+
+fn add_unmade(alloc: Global, row: &str, wrong: &mut String) -> Result<(), Fail> {
+    let (call, left) = row.split_once(" = ").unwrap_or((row, ""));
+    let (number, _kept) = call.split_once(' ').unwrap_or((call, ""));
+    let (classes, left) = left.split_once(' ').unwrap_or((left, ""));
+    let (size, whole) = left.split_once(' ').unwrap_or((left, ""));
+    let rows = format!(in alloc;
+        "fail {call}\nrun --make-home h = 12||write fault~\ncount h = {classes}\nsize h/classlist = {size}"
+    )?;
+    let mut bench = Bench::new(alloc);
+    add_wrong(&mut bench, rows.as_str(), wrong)?;
+    let before = number.parse::<usize>()?.saturating_sub(1);
+    if whole_classes(&mut bench, before)? != whole.parse::<u32>()? {
+        wrong.push_str(row)?;
     }
     Ok(())
 }
 
-// The making of a home whose call of this number fails, behind so many bytes, leaves so many class files, those before that
-// call whole, and so many bytes of the list.
-fn fails_at(
-    rt: &impl Abort,
-    alloc: Global,
-    call: u64,
-    kept: u64,
-    wanted: &str,
-) -> Result<(), Fail> {
-    let mut files = MemoryFiles::new(alloc);
-    files.fail(call, kept)?;
-    let did = does(alloc, "--make-home h", files)?;
-    assert_eq!(rt; did.told.as_slice(), b"12||write fault\n".as_slice());
-    let mut files = did.files;
-    let classes = count_below(alloc, &mut files, "h")?;
-    let list = size_at(alloc, &mut files, "h/classlist");
-    let left = format!(in alloc; "{classes} {list}")?;
-    assert_eq!(rt; left.as_str(), wanted);
-    has_first_classes(rt, alloc, &mut files, call.saturating_sub(1) as usize)
+fn wrong_homes(alloc: Global) -> Result<String, Fail> {
+    let mut wrong = String::new(alloc);
+    for row in UNMADE.lines() {
+        add_unmade(alloc, row, &mut wrong)?;
+    }
+    Ok(wrong)
 }
 
 #[test]
 fn a_home_that_can_not_be_written_is_told(rt: HostRuntime) -> Result<(), Fail> {
-    for (call, kept, wanted) in [(1, 0, "1 0"), (2, 3, "2 0"), (55, 10, "54 10")] {
-        fails_at(&rt, rt.alloc(), call, kept, wanted)?;
-    }
+    assert_eq!(rt; wrong_homes(rt.alloc())?.as_str(), "");
     Ok(())
 }
 
 // ---- runs and their lists
 
-#[test]
-fn a_home_that_is_not_there_has_no_boot_class(rt: HostRuntime) -> Result<(), Fail> {
-    let alloc = rt.alloc();
-    let words = ["--home=none", "-cp", "app", "E"];
-    let done = run_words(alloc, &words, MemoryFiles::new(alloc))?;
-    assert_eq!(rt; done.ended, Ended::NoBoot);
-    assert_eq!(rt; status(done.ended), 3);
-    assert_eq!(rt; done.out.bytes(), b"".as_slice());
-    assert_eq!(rt;
-        done.err.bytes(),
-        b"no boot class java/lang/Object\n".as_slice()
-    );
-    assert_eq!(rt; done.files.reads().len(), 0);
-    Ok(())
-}
-
-// The first names of a list and Main, a line each.
-fn loaded_list(alloc: Global, list: &str) -> Result<String, Fail> {
-    let mut loaded = String::new(alloc);
-    for name in list.lines().take(38) {
-        loaded.push_str(name)?;
-        loaded.push_str("\n")?;
-    }
-    loaded.push_str("Main\n")?;
-    Ok(loaded)
-}
-
-// A run read the required classes and Main, and listed them.
-fn read_and_listed(rt: &impl Abort, alloc: Global, files: MemoryFiles) -> Result<(), Fail> {
-    let mut files = files;
-    let reads = reads_of(alloc, &files)?;
-    let list = text_at(alloc, &mut files, "h/classlist")?;
-    let mut wanted = boot_paths(alloc, list.as_str(), 38)?;
-    wanted.push_str(" app/Main.class")?;
-    assert_eq!(rt; reads.as_str(), wanted.as_str());
-    let loaded = text_at(alloc, &mut files, "l.txt")?;
-    assert_eq!(rt; loaded.lines().count(), 39);
-    let wanted = loaded_list(alloc, list.as_str())?;
-    assert_eq!(rt; loaded.as_str(), wanted.as_str());
-    Ok(())
-}
+static LISTS: &str = "\
+home
+class app/Main.class SUM
+run --home=h -XX:DumpLoadedClassList=l.txt -cp app Main = 0|42~|
+boot-reads = 38 app/Main.class
+loaded = 38 Main
+new
+home
+class app/Main.class SUM
+run -XX:DumpLoadedClassList=l.txt -cp app --home=h --steps=8 Main = 8|42~|stopped after 8 steps~
+there l.txt = no
+run -XX:DumpLoadedClassList=l.txt -cp app --home=h --steps=9 Main = 0|42~|
+there l.txt = yes
+new
+home
+class app/Main.class SHIFTS
+run -XX:DumpLoadedClassList=l.txt -cp app --home=h Main = 0|2147483647~|
+there l.txt = yes
+new
+home
+class app/Main.class DIVIDES
+run -XX:DumpLoadedClassList=l.txt -cp app --home=h Main = 9||unsupported Main~
+there l.txt = no
+new
+home
+run -XX:DumpLoadedClassList=l.txt -cp app --home=h Main = 4||no main in Main~
+there l.txt = no
+class app/Main.class SUM
+run -XX:DumpLoadedClassList=l.txt -cp app --home=none Main = 3||no boot class java/lang/Object~
+there l.txt = no
+new
+run --make-home jsa-home = 0||
+class ./Main.class SUM
+run Main = 0|42~|
+first-read = jsa-home/boot/java/lang/Object.class
+last-read = ./Main.class";
 
 #[test]
-fn a_run_loads_the_required_classes_and_main_and_lists_them(rt: HostRuntime) -> Result<(), Fail> {
-    let files = home_and_main(&rt, rt.alloc(), &PUTS_A_SUM)?;
-    let did = does(rt.alloc(), RUN, files)?;
-    assert_eq!(rt; did.told.as_slice(), b"0|42\n|".as_slice());
-    read_and_listed(&rt, rt.alloc(), did.files)
-}
-
-// A run of a class as Main, with these words before the main class, ends so, and lists its classes only where it exits.
-fn ends(
-    rt: &impl Abort,
-    alloc: Global,
-    class: &[u8],
-    words: &str,
-    wanted: &str,
-) -> Result<(), Fail> {
-    let files = home_and_main(rt, alloc, class)?;
-    let line = format!(in alloc; "-XX:DumpLoadedClassList=l.txt -cp app {words} Main")?;
-    let did = does(alloc, line.as_str(), files)?;
-    assert_eq!(rt; did.told.as_slice(), wanted.as_bytes(), "{words}");
-    let mut files = did.files;
-    let is_listed = found_at(alloc, &mut files, "l.txt").is_some();
-    assert_eq!(rt; is_listed, wanted.starts_with('0'), "{words}");
-    Ok(())
-}
-
-#[test]
-fn a_run_that_does_not_exit_lists_nothing(rt: HostRuntime) -> Result<(), Fail> {
-    for (class, words, wanted) in [
-        (
-            PUTS_A_SUM.as_slice(),
-            "--home=h --steps=8",
-            "8|42\n|stopped after 8 steps\n",
-        ),
-        (PUTS_A_SUM.as_slice(), "--home=h --steps=9", "0|42\n|"),
-        (SHIFTS.as_slice(), "--home=h", "0|2147483647\n|"),
-        (DIVIDES.as_slice(), "--home=h", "9||unsupported Main\n"),
-        (b"".as_slice(), "--home=h", "4||no main in Main\n"),
-        (
-            PUTS_A_SUM.as_slice(),
-            "--home=none",
-            "3||no boot class java/lang/Object\n",
-        ),
-    ] {
-        ends(&rt, rt.alloc(), class, words, wanted)?;
-    }
+fn a_run_lists_its_classes_where_it_exits(rt: HostRuntime) -> Result<(), Fail> {
+    assert_eq!(rt; wrong_rows(rt.alloc(), LISTS)?.as_str(), "");
     Ok(())
 }
 
 // ---- what is found
-
-// Assembles a text, in which `~` ends a line, into a folder.
-fn with_classes(
-    rt: &impl Abort,
-    alloc: Global,
-    files: MemoryFiles,
-    text: &str,
-    folder: &str,
-) -> Result<MemoryFiles, Fail> {
-    let mut files = files;
-    files.with("t.txt", &lines_of(alloc, text)?)?;
-    let line = format!(in alloc; "--asm t.txt {folder}")?;
-    let did = does(alloc, line.as_str(), files)?;
-    assert_eq!(rt; did.told.as_slice(), b"0||".as_slice(), "{text}");
-    Ok(did.files)
-}
-
-// Puts a class that puts a number: its folder, its name and the number.
-fn with_number(
-    rt: &impl Abort,
-    alloc: Global,
-    files: MemoryFiles,
-    class: &str,
-) -> Result<MemoryFiles, Fail> {
-    let mut parts = class.splitn(3, ' ');
-    let folder = parts.next().ok_or("no folder")?;
-    let name = parts.next().ok_or("no name")?;
-    let number = parts.next().ok_or("no number")?;
-    let text = format!(in alloc;
-        "class 0x0021 {name} java/lang/Object~method 0x0108 put (I)V~method 0x0009 main ([Ljava/lang/String;)V~code 1 1~bipush {number}~invokestatic {name} put (I)V~return~end"
-    )?;
-    with_classes(rt, alloc, files, text.as_str(), folder)
-}
 
 // Classes that put their numbers, the words of a run, and what it tells.
 static FOUND: &str = "\
@@ -304,217 +174,196 @@ app Main 6 = --home=h -cp app .Main = 4||no main in /Main~
 app Main 6 = --home=h -cp app Main. = 4||no main in Main/~
 app Main 6 = Main = 3||no boot class java/lang/Object~";
 
-fn finds(rt: &impl Abort, alloc: Global, row: &str) -> Result<(), Fail> {
-    let (classes, row) = row.split_once(" = ").ok_or("no words")?;
-    let (words, wanted) = row.split_once(" = ").ok_or("nothing told")?;
-    let mut files = with_home(rt, alloc, MemoryFiles::new(alloc))?;
+fn add_found(alloc: Global, row: &str, wrong: &mut String) -> Result<(), Fail> {
+    let (classes, run) = row.split_once(" = ").unwrap_or((row, ""));
+    let mut bench = with_home(alloc)?;
     for class in classes.split(", ") {
-        files = with_number(rt, alloc, files, class)?;
+        let put = format!(in alloc; "number {class}")?;
+        add_wrong(&mut bench, put.as_str(), wrong)?;
     }
-    let did = does(alloc, words, files)?;
-    let wanted = lines_of(alloc, wanted)?;
-    assert_eq!(rt; did.told.as_slice(), wanted.as_slice(), "{words}");
-    Ok(())
+    let run = format!(in alloc; "run {run}")?;
+    add_wrong(&mut bench, run.as_str(), wrong)
+}
+
+fn wrong_found(alloc: Global) -> Result<String, Fail> {
+    let mut wrong = String::new(alloc);
+    for row in FOUND.lines() {
+        add_found(alloc, row, &mut wrong)?;
+    }
+    Ok(wrong)
 }
 
 #[test]
 fn where_a_main_class_is_found(rt: HostRuntime) -> Result<(), Fail> {
-    for row in FOUND.lines() {
-        finds(&rt, rt.alloc(), row)?;
-    }
-    Ok(())
-}
-
-#[test]
-fn the_folders_that_are_not_given(rt: HostRuntime) -> Result<(), Fail> {
-    let alloc = rt.alloc();
-    let did = does(alloc, "--make-home jsa-home", MemoryFiles::new(alloc))?;
-    assert_eq!(rt; did.told.as_slice(), b"0||".as_slice());
-    let mut files = did.files;
-    files.with("./Main.class", &PUTS_A_SUM)?;
-    let did = does(alloc, "Main", files)?;
-    assert_eq!(rt; did.told.as_slice(), b"0|42\n|".as_slice());
-    let reads = reads_of(alloc, &did.files)?;
-    assert!(rt; reads.starts_with(" jsa-home/boot/java/lang/Object.class "));
-    assert!(rt; reads.ends_with(" ./Main.class"));
+    assert_eq!(rt; wrong_found(rt.alloc())?.as_str(), "");
     Ok(())
 }
 
 // ---- classes that don't load or don't run, and homes that are wanting
 
-// How many boot classes are read, the other reads, what is told, the folder of the classes of a text, and the text. `A` is
-// run.
-static ANSWERS: &str = "\
-38 app/A.class,app/B.class = 4||no main in A~ = app = class 0x0021 A B~class 0x0021 B A
+// How many boot classes are read, and the other reads; what is told; the folder of the classes of a text; and the text. `A`
+// is run.
+static UNLOADED: &str = "\
+38 app/A.class app/B.class = 4||no main in A~ = app = class 0x0021 A B~class 0x0021 B A
 38 app/A.class = 4||no main in A~ = app = class 0x0021 A A
-38 app/A.class,app/B.class,app/C.class = 4||no main in A~ = app = class 0x0021 A B~class 0x0021 B C~class 0x0021 C A
+38 app/A.class app/B.class app/C.class = 4||no main in A~ = app = class 0x0021 A B~class 0x0021 B C~class 0x0021 C A
 38 app/A.class = 4||no main in A~ = app = class 0x0021 A B
-38 app/A.class,app/B.class = 4||no main in A~ = app = class 0x0021 A B~class 0x0601 B java/lang/Object
-38 app/A.class,app/B.class = 4||no main in A~ = app = class 0x0021 A java/lang/Object B~class 0x0021 B java/lang/Object
-38 app/A.class,app/p/B.class = 4||no main in A~ = app = class 0x0021 A p/B~class 0x0020 p/B java/lang/Object
+38 app/A.class app/B.class = 4||no main in A~ = app = class 0x0021 A B~class 0x0601 B java/lang/Object
+38 app/A.class app/B.class = 4||no main in A~ = app = class 0x0021 A java/lang/Object B~class 0x0021 B java/lang/Object
+38 app/A.class app/p/B.class = 4||no main in A~ = app = class 0x0021 A p/B~class 0x0020 p/B java/lang/Object
 38 app/A.class = 4||no main in A~ = app = class 0x0021 A java/lang/Object~version 53
-38 app/A.class,app/B.class = 9||unsupported A~ = app = class 0x0021 A B~class 0x0021 B java/lang/Object
-38 app/A.class = 9||unsupported A~ = app = class 0x0021 A java/lang/Object
-1  = 3||no boot class java/lang/Object~ = h/boot = class 0x0021 java/lang/Object java/lang/Object
-1  = 3||no boot class java/lang/Object~ = h/boot/java/lang = class 0x0021 Object -
-1  = 3||no boot class java/lang/Object~ = h/boot = class 0x0601 java/lang/Object -
-1  = 3||no boot class java/lang/Object~ = h/boot = class 0x0021 java/lang/Object -~method 0x0008 <clinit> ()V~code 0 0~return~end
-2  = 3||no boot class java/io/Serializable~ = h/boot = class 0x0021 java/io/Serializable java/lang/Object
-3  = 3||no boot class java/lang/Cloneable~ = h/boot = class 0x0601 java/lang/Cloneable java/lang/Object java/io/Serializable
-4  = 3||no boot class java/lang/Comparable~ = h/boot = class 0x0601 java/lang/Comparable java/lang/Object~method 0x0008 <clinit> ()V~code 0 0~return~end
-6  = 3||no boot class java/lang/String~ = h/boot = class 0x0031 java/lang/String java/lang/Object java/io/Serializable java/lang/CharSequence java/lang/Comparable~field 0x0012 value [C
-6  = 3||no boot class java/lang/String~ = h/boot = class 0x0031 java/lang/String java/lang/Object java/io/Serializable java/lang/Comparable~field 0x0012 value [C
-6  = 3||no boot class java/lang/String~ = h/boot = class 0x0031 java/lang/String java/lang/Object java/io/Serializable java/lang/Comparable java/lang/CharSequence
-6  = 3||no boot class java/lang/String~ = h/boot = class 0x0031 java/lang/String java/lang/Object java/io/Serializable java/lang/Comparable java/lang/CharSequence~field 0x001a value [C
-6  = 3||no boot class java/lang/String~ = h/boot = class 0x0031 java/lang/String java/lang/Object java/io/Serializable java/lang/Comparable java/lang/CharSequence~field 0x0012 value [B
-6  = 3||no boot class java/lang/String~ = h/boot = class 0x0031 java/lang/String java/lang/Object java/io/Serializable java/lang/Comparable java/lang/CharSequence~field 0x0012 values [C
-7  = 3||no boot class java/lang/Class~ = h/boot = class 0x0601 java/lang/Class java/lang/Object
-8  = 3||no boot class java/lang/Throwable~ = h/boot = class 0x0021 java/lang/Throwable java/lang/Object java/io/Serializable~field 0x0002 detailMessage Ljava/lang/String;
-8  = 3||no boot class java/lang/Throwable~ = h/boot = class 0x0021 java/lang/Throwable java/lang/Object~field 0x0002 cause Ljava/lang/Throwable;
-9  = 3||no boot class java/lang/Error~ = h/boot = class 0x0021 java/lang/Error java/lang/Object
-10  = 3||no boot class java/lang/Error~ = h/boot = class 0x0021 java/lang/Error java/lang/Exception
-9  = 3||no boot class java/lang/Error~ = h/boot = class 0x0021 java/lang/Error java/lang/Throwable java/io/Serializable
-9  = 3||no boot class java/lang/Error~ = h/boot = class 0x0021 java/lang/Error java/lang/Throwable~version 53
-9  = 3||no boot class java/lang/Error~ = h/boot/java/lang = class 0x0021 Error java/lang/Throwable
-38  = 3||no boot class java/lang/CloneNotSupportedException~ = h/boot = class 0x0021 java/lang/CloneNotSupportedException java/lang/Exception~method 0x0008 <clinit> ()V~code 0 0~return~end
-38  = 4||no main in A~ = h/boot = class 0x0031 java/lang/String java/lang/Object java/io/Serializable java/lang/Comparable java/lang/CharSequence~field 0x0012 value [B~field 0x0012 values [C~field 0x0002 value [C
-38  = 4||no main in A~ = h/boot = class 0x0021 java/lang/Throwable java/lang/Object java/io/Serializable~field 0x0002 cause Ljava/lang/Throwable;
-38  = 4||no main in A~ = h/boot = class 0x0421 java/lang/Object -";
+38 app/A.class app/B.class = 9||unsupported A~ = app = class 0x0021 A B~class 0x0021 B java/lang/Object
+38 app/A.class = 9||unsupported A~ = app = class 0x0021 A java/lang/Object";
 
-// The reads of the text, of the first boot classes, and of others that stand between commas.
-fn all_reads(
-    alloc: Global,
-    files: &mut MemoryFiles,
-    count: &str,
-    others: &str,
-) -> Result<String, Fail> {
-    let list = text_at(alloc, files, "h/classlist")?;
-    let mut reads = String::from_str(alloc, " t.txt")?;
-    let paths = boot_paths(alloc, list.as_str(), count.parse::<usize>()?)?;
-    reads.push_str(paths.as_str())?;
-    if others.is_empty() {
-        return Ok(reads);
-    }
-    for other in others.split(',') {
-        reads.push_str(" ")?;
-        reads.push_str(other)?;
-    }
-    Ok(reads)
+static FIRST_WANTING: &str = "\
+1 = 3||no boot class java/lang/Object~ = h/boot = class 0x0021 java/lang/Object java/lang/Object
+1 = 3||no boot class java/lang/Object~ = h/boot/java/lang = class 0x0021 Object -
+1 = 3||no boot class java/lang/Object~ = h/boot = class 0x0601 java/lang/Object -
+1 = 3||no boot class java/lang/Object~ = h/boot = class 0x0021 java/lang/Object -~method 0x0008 <clinit> ()V~code 0 0~return~end
+2 = 3||no boot class java/io/Serializable~ = h/boot = class 0x0021 java/io/Serializable java/lang/Object
+3 = 3||no boot class java/lang/Cloneable~ = h/boot = class 0x0601 java/lang/Cloneable java/lang/Object java/io/Serializable
+4 = 3||no boot class java/lang/Comparable~ = h/boot = class 0x0601 java/lang/Comparable java/lang/Object~method 0x0008 <clinit> ()V~code 0 0~return~end
+6 = 3||no boot class java/lang/String~ = h/boot = class 0x0031 java/lang/String java/lang/Object java/io/Serializable java/lang/CharSequence java/lang/Comparable~field 0x0012 value [C
+6 = 3||no boot class java/lang/String~ = h/boot = class 0x0031 java/lang/String java/lang/Object java/io/Serializable java/lang/Comparable~field 0x0012 value [C
+6 = 3||no boot class java/lang/String~ = h/boot = class 0x0031 java/lang/String java/lang/Object java/io/Serializable java/lang/Comparable java/lang/CharSequence
+6 = 3||no boot class java/lang/String~ = h/boot = class 0x0031 java/lang/String java/lang/Object java/io/Serializable java/lang/Comparable java/lang/CharSequence~field 0x001a value [C
+6 = 3||no boot class java/lang/String~ = h/boot = class 0x0031 java/lang/String java/lang/Object java/io/Serializable java/lang/Comparable java/lang/CharSequence~field 0x0012 value [B
+6 = 3||no boot class java/lang/String~ = h/boot = class 0x0031 java/lang/String java/lang/Object java/io/Serializable java/lang/Comparable java/lang/CharSequence~field 0x0012 values [C";
+
+static LATER_WANTING: &str = "\
+7 = 3||no boot class java/lang/Class~ = h/boot = class 0x0601 java/lang/Class java/lang/Object
+8 = 3||no boot class java/lang/Throwable~ = h/boot = class 0x0021 java/lang/Throwable java/lang/Object java/io/Serializable~field 0x0002 detailMessage Ljava/lang/String;
+8 = 3||no boot class java/lang/Throwable~ = h/boot = class 0x0021 java/lang/Throwable java/lang/Object~field 0x0002 cause Ljava/lang/Throwable;
+9 = 3||no boot class java/lang/Error~ = h/boot = class 0x0021 java/lang/Error java/lang/Object
+10 = 3||no boot class java/lang/Error~ = h/boot = class 0x0021 java/lang/Error java/lang/Exception
+9 = 3||no boot class java/lang/Error~ = h/boot = class 0x0021 java/lang/Error java/lang/Throwable java/io/Serializable
+9 = 3||no boot class java/lang/Error~ = h/boot = class 0x0021 java/lang/Error java/lang/Throwable~version 53
+9 = 3||no boot class java/lang/Error~ = h/boot/java/lang = class 0x0021 Error java/lang/Throwable
+38 = 3||no boot class java/lang/CloneNotSupportedException~ = h/boot = class 0x0021 java/lang/CloneNotSupportedException java/lang/Exception~method 0x0008 <clinit> ()V~code 0 0~return~end
+38 = 4||no main in A~ = h/boot = class 0x0031 java/lang/String java/lang/Object java/io/Serializable java/lang/Comparable java/lang/CharSequence~field 0x0012 value [B~field 0x0012 values [C~field 0x0002 value [C
+38 = 4||no main in A~ = h/boot = class 0x0021 java/lang/Throwable java/lang/Object java/io/Serializable~field 0x0002 cause Ljava/lang/Throwable;
+38 = 4||no main in A~ = h/boot = class 0x0421 java/lang/Object -";
+
+fn add_answer(alloc: Global, row: &str, wrong: &mut String) -> Result<(), Fail> {
+    let (reads, row) = row.split_once(" = ").unwrap_or((row, ""));
+    let (told, row) = row.split_once(" = ").unwrap_or((row, ""));
+    let (folder, text) = row.split_once(" = ").unwrap_or((row, ""));
+    let first = format!(in alloc; "home\ntext t.txt {text}\nrun --asm t.txt {folder} = 0||")?;
+    let run = "run --home=h -XX:DumpLoadedClassList=l.txt -cp app A";
+    let then = format!(in alloc; "{run} = {told}\nboot-reads = t.txt {reads}\nthere l.txt = no")?;
+    let mut bench = Bench::new(alloc);
+    add_wrong(&mut bench, first.as_str(), wrong)?;
+    add_wrong(&mut bench, then.as_str(), wrong)
 }
 
-// A run read these files, and listed no class.
-fn read_and_listed_none(
-    rt: &impl Abort,
-    alloc: Global,
-    files: MemoryFiles,
-    wanted: &str,
-) -> Result<(), Fail> {
-    let (count, others) = wanted.split_once(' ').ok_or("no count")?;
-    let mut files = files;
-    let reads = reads_of(alloc, &files)?;
-    let wanted = all_reads(alloc, &mut files, count, others)?;
-    assert_eq!(rt; reads.as_str(), wanted.as_str());
-    assert!(rt; found_at(alloc, &mut files, "l.txt").is_none());
-    Ok(())
-}
-
-fn answers(rt: &impl Abort, alloc: Global, row: &str) -> Result<(), Fail> {
-    let mut parts = row.splitn(4, " = ");
-    let reads = parts.next().ok_or("no reads")?;
-    let wanted = parts.next().ok_or("nothing told")?;
-    let folder = parts.next().ok_or("no folder")?;
-    let text = parts.next().ok_or("no text")?;
-    let files = with_home(rt, alloc, MemoryFiles::new(alloc))?;
-    let files = with_classes(rt, alloc, files, text, folder)?;
-    let line = "--home=h -XX:DumpLoadedClassList=l.txt -cp app A";
-    let did = does(alloc, line, files)?;
-    let wanted = lines_of(alloc, wanted)?;
-    assert_eq!(rt; did.told.as_slice(), wanted.as_slice(), "{text}");
-    read_and_listed_none(rt, alloc, did.files, reads)
+fn wrong_answers(alloc: Global, rows: &str) -> Result<String, Fail> {
+    let mut wrong = String::new(alloc);
+    for row in rows.lines() {
+        add_answer(alloc, row, &mut wrong)?;
+    }
+    Ok(wrong)
 }
 
 #[test]
-fn classes_that_do_not_load_and_homes_that_are_wanting(rt: HostRuntime) -> Result<(), Fail> {
-    for row in ANSWERS.lines() {
-        answers(&rt, rt.alloc(), row)?;
-    }
+fn classes_that_do_not_load(rt: HostRuntime) -> Result<(), Fail> {
+    assert_eq!(rt; wrong_answers(rt.alloc(), UNLOADED)?.as_str(), "");
     Ok(())
 }
 
-// A run over a home with these bytes at a path tells this.
-fn tells_with(
-    rt: &impl Abort,
-    alloc: Global,
-    path: &str,
-    bytes: &[u8],
-    wanted: &str,
-) -> Result<(), Fail> {
-    let mut files = home_and_main(rt, alloc, &PUTS_A_SUM)?;
-    files.with(path, bytes)?;
-    let did = does(alloc, RUN, files)?;
-    assert_eq!(rt; did.told.as_slice(), wanted.as_bytes(), "{path}");
+#[test]
+fn homes_whose_first_classes_are_wanting(rt: HostRuntime) -> Result<(), Fail> {
+    assert_eq!(rt; wrong_answers(rt.alloc(), FIRST_WANTING)?.as_str(), "");
     Ok(())
+}
+
+#[test]
+fn homes_whose_later_classes_are_wanting(rt: HostRuntime) -> Result<(), Fail> {
+    assert_eq!(rt; wrong_answers(rt.alloc(), LATER_WANTING)?.as_str(), "");
+    Ok(())
+}
+
+// A path at which no class is, but these bytes, and what a run tells.
+static NOT_CLASSES: &str = "\
+h/boot/java/lang/Object.class = 3||no boot class java/lang/Object~
+h/boot/java/lang/Error.class = 3||no boot class java/lang/Error~
+h/boot/java/lang/System.class = 0|42~|
+h/classlist = 0|42~|
+h/boot/Main.class = 4||no main in Main~
+h/platform/Main.class = 4||no main in Main~
+app/Main.class = 4||no main in Main~";
+
+fn add_no_class(alloc: Global, row: &str, bytes: &str, wrong: &mut String) -> Result<(), Fail> {
+    let (path, told) = row.split_once(" = ").unwrap_or((row, ""));
+    let run = "run --home=h -XX:DumpLoadedClassList=l.txt -cp app Main";
+    let rows = format!(in alloc; "class app/Main.class SUM\ntext {path} {bytes}\n{run} = {told}")?;
+    let mut bench = with_home(alloc)?;
+    add_wrong(&mut bench, rows.as_str(), wrong)
+}
+
+fn wrong_no_classes(alloc: Global) -> Result<String, Fail> {
+    let mut wrong = String::new(alloc);
+    for row in NOT_CLASSES.lines() {
+        add_no_class(alloc, row, "x", &mut wrong)?;
+        add_no_class(alloc, row, "", &mut wrong)?;
+    }
+    Ok(wrong)
 }
 
 #[test]
 fn files_that_are_no_classes(rt: HostRuntime) -> Result<(), Fail> {
-    for (path, wanted) in [
-        (
-            "h/boot/java/lang/Object.class",
-            "3||no boot class java/lang/Object\n",
-        ),
-        (
-            "h/boot/java/lang/Error.class",
-            "3||no boot class java/lang/Error\n",
-        ),
-        ("h/boot/java/lang/System.class", "0|42\n|"),
-        ("h/classlist", "0|42\n|"),
-        ("h/boot/Main.class", "4||no main in Main\n"),
-        ("h/platform/Main.class", "4||no main in Main\n"),
-        ("app/Main.class", "4||no main in Main\n"),
-    ] {
-        tells_with(&rt, rt.alloc(), path, b"x", wanted)?;
-        tells_with(&rt, rt.alloc(), path, b"", wanted)?;
-    }
+    assert_eq!(rt; wrong_no_classes(rt.alloc())?.as_str(), "");
     Ok(())
 }
 
 // ---- faults
 
-// A run whose call of the store of this number, counted behind those of the home, fails behind five bytes tells this, and
-// leaves so many bytes of its list.
-fn run_fails(
-    rt: &impl Abort,
-    alloc: Global,
-    call: u64,
-    wanted: &str,
-    size: usize,
-) -> Result<(), Fail> {
-    let mut files = home_and_main(rt, alloc, &PUTS_A_SUM)?;
-    files.fail(call.saturating_add(CALLS), 5)?;
-    let did = does(alloc, RUN, files)?;
-    assert_eq!(rt; did.told.as_slice(), wanted.as_bytes(), "{call}");
-    let mut files = did.files;
-    assert_eq!(rt; size_at(alloc, &mut files, "l.txt"), size, "{call}");
-    Ok(())
+// A call of the store, counted behind the 55 of the home, that fails behind five bytes; what is told; and how many bytes of
+// the list are left. A run makes 42 calls, so that of the last row the look at the list fails.
+static FAILING: &str = "\
+1 = 11||read fault~ = 0
+2 = 11||read fault~ = 0
+38 = 11||read fault~ = 0
+39 = 11||read fault~ = 0
+40 = 11||read fault~ = 0
+41 = 11||read fault~ = 0
+42 = 12|42~|write fault~ = 5
+43 = 0|42~| = 0";
+
+fn add_failing(alloc: Global, row: &str, wrong: &mut String) -> Result<(), Fail> {
+    let (call, row) = row.split_once(" = ").unwrap_or((row, ""));
+    let (told, size) = row.split_once(" = ").unwrap_or((row, ""));
+    let call = call.parse::<u64>()?.saturating_add(55);
+    let run = "run --home=h -XX:DumpLoadedClassList=l.txt -cp app Main";
+    let rows = format!(in alloc;
+        "class app/Main.class SUM\nfail {call} 5\n{run} = {told}\nsize l.txt = {size}"
+    )?;
+    let mut bench = with_home(alloc)?;
+    add_wrong(&mut bench, rows.as_str(), wrong)
+}
+
+fn wrong_failing(alloc: Global) -> Result<String, Fail> {
+    let mut wrong = String::new(alloc);
+    for row in FAILING.lines() {
+        add_failing(alloc, row, &mut wrong)?;
+    }
+    Ok(wrong)
 }
 
 #[test]
 fn each_call_of_a_run_over_a_home_may_fail(rt: HostRuntime) -> Result<(), Fail> {
-    for call in [1, 2, 38, 39, 40, 41] {
-        run_fails(&rt, rt.alloc(), call, "11||read fault\n", 0)?;
-    }
-    run_fails(&rt, rt.alloc(), 42, "12|42\n|write fault\n", 5)?;
-    // The run makes no further call, so it is the look at its list that fails.
-    run_fails(&rt, rt.alloc(), 43, "0|42\n|", 0)
+    assert_eq!(rt; wrong_failing(rt.alloc())?.as_str(), "");
+    Ok(())
 }
+
+static PUT: &str = "\
+home
+class app/Main.class SUM
+out 1 3
+run --home=h -XX:DumpLoadedClassList=l.txt -cp app Main = 12|42~|write fault~
+size l.txt = 0";
 
 #[test]
 fn a_put_that_fails_is_told_and_lists_nothing(rt: HostRuntime) -> Result<(), Fail> {
-    let files = home_and_main(&rt, rt.alloc(), &PUTS_A_SUM)?;
-    let did = does_failing(rt.alloc(), RUN, files, 1)?;
-    assert_eq!(rt; did.told.as_slice(), b"12|42\n|write fault\n".as_slice());
-    let mut files = did.files;
-    assert_eq!(rt; size_at(rt.alloc(), &mut files, "l.txt"), 0);
+    assert_eq!(rt; wrong_rows(rt.alloc(), PUT)?.as_str(), "");
     Ok(())
 }

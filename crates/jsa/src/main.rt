@@ -6,6 +6,10 @@ mod archive_tests;
 #[cfg(test)]
 mod asm_tests;
 #[cfg(test)]
+mod bench;
+#[cfg(test)]
+mod calls;
+#[cfg(test)]
 mod class_list_tests;
 #[cfg(test)]
 mod hello_tests;
@@ -13,6 +17,8 @@ mod hello_tests;
 mod home_tests;
 #[cfg(test)]
 mod lines_tests;
+#[cfg(test)]
+mod looks;
 #[cfg(test)]
 mod test_classes;
 #[cfg(test)]

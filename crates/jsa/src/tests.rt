@@ -1,179 +1,78 @@
-// Whole commands over a store and sinks in memory.
-use jsa_command::{Ended, run_command, status};
+// Whole runs over a store and sinks in memory, without a home.
+use crate::bench::{Bench, Planned, wrong_rows};
+use crate::calls::{say_command, say_run};
 use crate::test_classes::{ACCEPTED, PUTS_42_AND_MINUS_1, REFUSED};
-use jsa_base::Quantity;
-use jsa_files::{MAX_FILE, MemoryFiles, MemorySink};
 use std::alloc::Global;
-use std::process::Abort;
 use std::test::Fail;
 
-// What a command left.
-#[derive(Drop)]
-pub(crate) struct Done {
-    pub(crate) ended: Ended,
-    pub(crate) out: MemorySink,
-    pub(crate) err: MemorySink,
-    pub(crate) files: MemoryFiles,
-}
+const RUN: &str = "-Xshare:auto -cp app Main";
 
-pub(crate) fn run_words(alloc: Global, words: &[&str], files: MemoryFiles) -> Result<Done, Fail> {
-    let mut owned = Vec::new(alloc);
-    for word in words {
-        owned.push(String::from_str(alloc, word)?)?;
-    }
-    let mut out = MemorySink::new(alloc);
-    let mut err = MemorySink::new(alloc);
-    let (ended, files) = run_command(alloc, &owned, files, &mut out, &mut err);
-    Ok(Done {
-        ended,
-        out,
-        err,
-        files,
-    })
-}
-
-// Runs a class as the file of Main, without a home.
-fn run_main(alloc: Global, class: &[u8]) -> Result<Done, Fail> {
-    let mut files = MemoryFiles::new(alloc);
-    files.with("app/Main.class", class)?;
-    run_words(alloc, &["-Xshare:auto", "-cp", "app", "Main"], files)
-}
-
-// `main` puts 40 + 2 by bipush, iconst_2, iadd and invokestatic.
-pub(crate) const PUTS_A_SUM: [u8; 160] = [
-    202, 254, 186, 190, 0, 0, 0, 52, 0, 12, 1, 0, 4, 77, 97, 105, 110, 7, 0, 1, 1, 0, 16, 106, 97,
-    118, 97, 47, 108, 97, 110, 103, 47, 79, 98, 106, 101, 99, 116, 7, 0, 3, 1, 0, 4, 109, 97, 105,
-    110, 1, 0, 22, 40, 91, 76, 106, 97, 118, 97, 47, 108, 97, 110, 103, 47, 83, 116, 114, 105, 110,
-    103, 59, 41, 86, 1, 0, 4, 67, 111, 100, 101, 1, 0, 3, 112, 117, 116, 1, 0, 4, 40, 73, 41, 86,
-    12, 0, 8, 0, 9, 10, 0, 2, 0, 10, 0, 33, 0, 2, 0, 4, 0, 0, 0, 0, 0, 2, 0, 9, 0, 5, 0, 6, 0, 1,
-    0, 7, 0, 0, 0, 20, 0, 2, 0, 1, 0, 0, 0, 8, 16, 40, 5, 96, 184, 0, 11, 177, 0, 0, 0, 0, 1, 9, 0,
-    8, 0, 9, 0, 0, 0, 0,
-];
-
-// `main` divides 0 by 1.
-pub(crate) const DIVIDES: [u8; 157] = [
-    202, 254, 186, 190, 0, 0, 0, 52, 0, 12, 1, 0, 4, 77, 97, 105, 110, 7, 0, 1, 1, 0, 16, 106, 97,
-    118, 97, 47, 108, 97, 110, 103, 47, 79, 98, 106, 101, 99, 116, 7, 0, 3, 1, 0, 4, 109, 97, 105,
-    110, 1, 0, 22, 40, 91, 76, 106, 97, 118, 97, 47, 108, 97, 110, 103, 47, 83, 116, 114, 105, 110,
-    103, 59, 41, 86, 1, 0, 4, 67, 111, 100, 101, 1, 0, 3, 112, 117, 116, 1, 0, 4, 40, 73, 41, 86,
-    12, 0, 8, 0, 9, 10, 0, 2, 0, 10, 0, 33, 0, 2, 0, 4, 0, 0, 0, 0, 0, 2, 0, 9, 0, 5, 0, 6, 0, 1,
-    0, 7, 0, 0, 0, 17, 0, 2, 0, 1, 0, 0, 0, 5, 3, 4, 108, 87, 177, 0, 0, 0, 0, 1, 9, 0, 8, 0, 9, 0,
-    0, 0, 0,
-];
-
-// `main` shifts -1 to the right by 1, with zeros, and puts that.
-pub(crate) const SHIFTS: [u8; 159] = [
-    202, 254, 186, 190, 0, 0, 0, 52, 0, 12, 1, 0, 4, 77, 97, 105, 110, 7, 0, 1, 1, 0, 16, 106, 97,
-    118, 97, 47, 108, 97, 110, 103, 47, 79, 98, 106, 101, 99, 116, 7, 0, 3, 1, 0, 4, 109, 97, 105,
-    110, 1, 0, 22, 40, 91, 76, 106, 97, 118, 97, 47, 108, 97, 110, 103, 47, 83, 116, 114, 105, 110,
-    103, 59, 41, 86, 1, 0, 4, 67, 111, 100, 101, 1, 0, 3, 112, 117, 116, 1, 0, 4, 40, 73, 41, 86,
-    12, 0, 8, 0, 9, 10, 0, 2, 0, 10, 0, 33, 0, 2, 0, 4, 0, 0, 0, 0, 0, 2, 0, 9, 0, 5, 0, 6, 0, 1,
-    0, 7, 0, 0, 0, 19, 0, 2, 0, 1, 0, 0, 0, 7, 2, 4, 124, 184, 0, 11, 177, 0, 0, 0, 0, 1, 9, 0, 8,
-    0, 9, 0, 0, 0, 0,
-];
+static RUNS: &str = "\
+class app/Main.class SUM
+run -Xshare:auto -cp app Main = 0|42~|
+reads = app/Main.class
+class app/Main.class SHIFTS
+run -Xshare:auto -cp app Main = 0|2147483647~|
+class app/Main.class DIVIDES
+run -Xshare:auto -cp app Main = 9||unsupported Main~
+new
+run -Xshare:auto -cp app Main = 4||no main in Main~
+run -Xshare:auto -cp app p.Main = 4||no main in p/Main~
+run -Xshare:auto -cp  Main = 2||usage~
+reads = none
+class a/b/p/q/Main.class COMPILED
+run -Xshare:auto -cp a/b p.q.Main = 0|42~-1~|";
 
 #[test]
-fn a_sum_is_put_as_a_line(rt: HostRuntime) -> Result<(), Fail> {
-    let done = run_main(rt.alloc(), &PUTS_A_SUM)?;
-    assert_eq!(rt; done.ended, Ended::Exit(0));
-    assert_eq!(rt; status(done.ended), 0);
-    assert_eq!(rt; done.out.bytes(), b"42\n".as_slice());
-    assert_eq!(rt; done.err.bytes(), b"".as_slice());
-    let reads = done.files.reads();
-    assert_eq!(rt; reads.len(), 1);
-    assert_eq!(rt; reads[0].as_str(), "app/Main.class");
+fn runs_and_what_they_tell(rt: HostRuntime) -> Result<(), Fail> {
+    assert_eq!(rt; wrong_rows(rt.alloc(), RUNS)?.as_str(), "");
     Ok(())
 }
 
-#[test]
-fn a_logical_shift_brings_in_zeros(rt: HostRuntime) -> Result<(), Fail> {
-    let done = run_main(rt.alloc(), &SHIFTS)?;
-    assert_eq!(rt; done.ended, Ended::Exit(0));
-    assert_eq!(rt; done.out.bytes(), b"2147483647\n".as_slice());
-    Ok(())
-}
-
-#[test]
-fn a_division_is_unsupported(rt: HostRuntime) -> Result<(), Fail> {
-    let done = run_main(rt.alloc(), &DIVIDES)?;
-    assert_eq!(rt; done.ended, Ended::Unsupported);
-    assert_eq!(rt; status(done.ended), 9);
-    assert_eq!(rt; done.out.bytes(), b"".as_slice());
-    assert_eq!(rt; done.err.bytes(), b"unsupported Main\n".as_slice());
-    Ok(())
-}
-
-#[test]
-fn an_empty_folder_has_no_main(rt: HostRuntime) -> Result<(), Fail> {
-    let alloc = rt.alloc();
-    let words = ["-Xshare:auto", "-cp", "app", "Main"];
-    let done = run_words(alloc, &words, MemoryFiles::new(alloc))?;
-    assert_eq!(rt; done.ended, Ended::NoMain);
-    assert_eq!(rt; done.err.bytes(), b"no main in Main\n".as_slice());
-    let words = ["-Xshare:auto", "-cp", "app", "p.Main"];
-    let done = run_words(alloc, &words, MemoryFiles::new(alloc))?;
-    assert_eq!(rt; done.ended, Ended::NoMain);
-    assert_eq!(rt; status(done.ended), 4);
-    assert_eq!(rt; done.out.bytes(), b"".as_slice());
-    assert_eq!(rt; done.err.bytes(), b"no main in p/Main\n".as_slice());
-    assert_eq!(rt; done.files.reads().len(), 0);
-    Ok(())
-}
-
-#[test]
-fn a_class_of_a_package_is_found_below_its_folder(rt: HostRuntime) -> Result<(), Fail> {
-    let alloc = rt.alloc();
-    let mut files = MemoryFiles::new(alloc);
-    files.with("a/b/p/q/Main.class", &PUTS_42_AND_MINUS_1)?;
-    let done = run_words(alloc, &["-Xshare:auto", "-cp", "a/b", "p.q.Main"], files)?;
-    assert_eq!(rt; done.ended, Ended::Exit(0));
-    assert_eq!(rt; done.out.bytes(), b"42\n-1\n".as_slice());
-    Ok(())
-}
+static LARGE: &str = "\
+large app/Main.class 1
+run -Xshare:auto -cp app Main = 13||limit FileSize 67108864~
+large app/Main.class 0
+run -Xshare:auto -cp app Main = 9||unsupported Main~";
 
 #[test]
 fn a_file_above_the_limit_is_told(rt: HostRuntime) -> Result<(), Fail> {
-    let large = vec![in rt.alloc(); 0u8; MAX_FILE + 1]?;
-    let done = run_main(rt.alloc(), &large)?;
-    let limit = MAX_FILE as u64;
-    assert_eq!(rt; done.ended, Ended::Limit(Quantity::FileSize, limit));
-    assert_eq!(rt; status(done.ended), 13);
-    assert_eq!(rt; done.err.bytes(), b"limit FileSize 67108864\n".as_slice());
-    let done = run_main(rt.alloc(), &large[1..])?;
-    assert_eq!(rt; done.ended, Ended::Unsupported);
+    assert_eq!(rt; wrong_rows(rt.alloc(), LARGE)?.as_str(), "");
     Ok(())
 }
 
-// Adds what stands before an edit's place and its new bytes, and answers the place behind what goes.
-fn push_edit(
-    rt: &impl Abort,
-    class: &[u8],
-    place: usize,
-    edit: &str,
-    bytes: &mut Vec<u8>,
-) -> Result<usize, Fail> {
-    let mut numbers = edit.split_whitespace();
-    let at = numbers.next().ok_or("no place")?.parse::<usize>()?;
-    let cut = numbers.next().ok_or("no number")?.parse::<usize>()?;
-    assert!(rt; place <= at && at <= class.len() && cut <= class.len() - at);
-    bytes.extend_from_slice(&class[place..at])?;
-    for number in numbers {
-        bytes.push(number.parse::<u8>()?)?;
-    }
-    Ok(at + cut)
+// The compiled class ends in its ninth turn.
+static LIMITS: &str = "\
+class app/Main.class COMPILED
+run -Xshare:auto -cp app --steps=0 Main = 8||stopped after 0 steps~
+run -Xshare:auto -cp app --steps=4 Main = 8||stopped after 4 steps~
+run -Xshare:auto -cp app --steps=5 Main = 8|42~|stopped after 5 steps~
+run -Xshare:auto -cp app --steps=7 Main = 8|42~-1~|stopped after 7 steps~
+run -Xshare:auto -cp app --steps=8 Main = 8|42~-1~|stopped after 8 steps~
+run -Xshare:auto -cp app --steps=9 Main = 0|42~-1~|
+run -Xshare:auto -cp app --steps=10 Main = 0|42~-1~|
+run -Xshare:auto -cp app --steps=0x8 Main = 8|42~-1~|stopped after 8 steps~
+run -Xshare:auto -cp app --steps=0x9 Main = 0|42~-1~|
+run -Xshare:auto -cp app --steps=00000000000000000004 Main = 8||stopped after 4 steps~
+run -Xshare:auto -cp app --steps=00000000000000000009 Main = 0|42~-1~|
+run -Xshare:auto -cp app --steps=0x0000000000000009 Main = 0|42~-1~|
+run -Xshare:auto -cp app --steps=18446744073709551615 Main = 0|42~-1~|
+run -Xshare:auto -cp app --steps=0xffffffffffffffff Main = 0|42~-1~|
+run -Xshare:auto -cp app --steps=0xFFFFFFFFFFFFFFFF Main = 0|42~-1~|
+class app/Main.class SUM
+run -Xshare:auto -cp app --steps=8 Main = 8|42~|stopped after 8 steps~
+run -Xshare:auto -cp app --steps=9 Main = 0|42~|";
+
+#[test]
+fn a_run_stops_at_its_limit_of_turns(rt: HostRuntime) -> Result<(), Fail> {
+    assert_eq!(rt; wrong_rows(rt.alloc(), LIMITS)?.as_str(), "");
+    Ok(())
 }
 
-// The class that a line's edits make.
-fn edited(rt: &impl Abort, alloc: Global, edits: &str) -> Result<Vec<u8>, Fail> {
-    let class = &PUTS_42_AND_MINUS_1;
-    let mut bytes = Vec::new(alloc);
-    let mut place = 0;
-    for edit in edits.split(';').skip(1) {
-        place = push_edit(rt, class, place, edit, &mut bytes)?;
-    }
-    assert!(rt; place <= class.len());
-    bytes.extend_from_slice(&class[place..])?;
-    Ok(bytes)
+fn add_line(wrong: &mut String, line: &str) -> Result<(), Fail> {
+    wrong.push_str(line)?;
+    wrong.push_str("\n")?;
+    Ok(())
 }
 
 // Words outside the grammar, with one space between each two.
@@ -246,145 +145,152 @@ app Main
 -Xshare:auto -cp app Ma-in
 -Xshare:auto -cp app Ma\u{e9}n";
 
-fn refuses_words(rt: &impl Abort, alloc: Global, line: &str) -> Result<(), Fail> {
+fn words_in(alloc: Global, line: &str) -> Result<Vec<String>, Fail> {
     let mut words = Vec::new(alloc);
     for word in line.split_whitespace() {
-        words.push(word)?;
+        words.push(String::from_str(alloc, word)?)?;
     }
-    let mut files = MemoryFiles::new(alloc);
-    files.with("app/Main.class", &PUTS_42_AND_MINUS_1)?;
-    let done = run_words(alloc, &words, files)?;
-    assert_eq!(rt; done.ended, Ended::Usage, "{line}");
-    assert_eq!(rt; status(done.ended), 2);
-    assert_eq!(rt; done.out.bytes(), b"".as_slice());
-    assert_eq!(rt; done.err.bytes(), b"usage\n".as_slice());
-    assert_eq!(rt; done.files.reads().len(), 0);
-    Ok(())
+    Ok(words)
 }
 
-// Numbers of turns, and the answer, what is put and what is told after so many. The class ends in its ninth turn.
-static LIMITS: &str = "0 8  stopped after 0 steps/
-4 8  stopped after 4 steps/
-5 8 42/ stopped after 5 steps/
-7 8 42/-1/ stopped after 7 steps/
-8 8 42/-1/ stopped after 8 steps/
-9 0 42/-1/ 
-10 0 42/-1/ 
-0x8 8 42/-1/ stopped after 8 steps/
-0x9 0 42/-1/ 
-00000000000000000004 8  stopped after 4 steps/
-00000000000000000009 0 42/-1/ 
-0x0000000000000009 0 42/-1/ 
-18446744073709551615 0 42/-1/ 
-0xffffffffffffffff 0 42/-1/ 
-0xFFFFFFFFFFFFFFFF 0 42/-1/ ";
-
-// Runs a class with a limit of turns.
-fn run_to(alloc: Global, class: &[u8], limit: &str) -> Result<Done, Fail> {
-    let mut files = MemoryFiles::new(alloc);
-    files.with("app/Main.class", class)?;
-    let steps = format!(in alloc; "--steps={limit}")?;
-    let words = ["-Xshare:auto", "-cp", "app", steps.as_str(), "Main"];
-    run_words(alloc, &words, files)
+// Whether these words have the answer of faulty ones, and read nothing.
+fn is_usage(alloc: Global, line: &str) -> Result<bool, Fail> {
+    let mut bench = Bench::new(alloc);
+    bench.files.with("app/Main.class", &PUTS_42_AND_MINUS_1)?;
+    let words = words_in(alloc, line)?;
+    let mut said = String::new(alloc);
+    say_command(&mut bench, &words, &mut said)?;
+    Ok(said.as_str() == "2||usage~" && bench.files.reads().is_empty())
 }
 
-fn stops_at_its_limit(rt: &impl Abort, alloc: Global, line: &str) -> Result<(), Fail> {
-    let mut parts = line.splitn(4, ' ');
-    let limit = parts.next().ok_or("no limit")?;
-    let wanted = parts.next().ok_or("no status")?.parse::<u8>()?;
-    let put = lines_of(alloc, parts.next().ok_or("no output")?)?;
-    let told = lines_of(alloc, parts.next().ok_or("no line")?)?;
-    let done = run_to(alloc, &PUTS_42_AND_MINUS_1, limit)?;
-    assert_eq!(rt; status(done.ended), wanted, "{line}");
-    assert_eq!(rt; done.out.bytes(), put.as_slice(), "{line}");
-    assert_eq!(rt; done.err.bytes(), told.as_slice(), "{line}");
-    Ok(())
-}
-
-#[test]
-fn a_run_stops_at_its_limit_of_turns(rt: HostRuntime) -> Result<(), Fail> {
-    for line in LIMITS.lines() {
-        stops_at_its_limit(&rt, rt.alloc(), line)?;
-    }
-    let done = run_to(rt.alloc(), &PUTS_A_SUM, "8")?;
-    assert_eq!(rt; done.ended, Ended::Stopped);
-    assert_eq!(rt; done.err.bytes(), b"stopped after 8 steps\n".as_slice());
-    let done = run_to(rt.alloc(), &PUTS_A_SUM, "9")?;
-    assert_eq!(rt; done.ended, Ended::Exit(0));
-    assert_eq!(rt; done.out.bytes(), b"42\n".as_slice());
-    Ok(())
-}
-
-fn refuses_class(rt: &impl Abort, alloc: Global, line: &str) -> Result<(), Fail> {
-    let class = edited(rt, alloc, line)?;
-    let done = run_main(alloc, &class)?;
-    assert_eq!(rt; done.ended, Ended::Unsupported, "{line}");
-    assert_eq!(rt; done.out.bytes(), b"".as_slice());
-    assert_eq!(rt; done.err.bytes(), b"unsupported Main\n".as_slice());
-    Ok(())
-}
-
-#[test]
-fn each_narrowing_and_each_faulty_word_refuses(rt: HostRuntime) -> Result<(), Fail> {
+fn words_that_run(alloc: Global) -> Result<String, Fail> {
+    let mut wrong = String::new(alloc);
     for line in FAULTY_WORDS.lines() {
-        refuses_words(&rt, rt.alloc(), line)?;
+        if !is_usage(alloc, line)? {
+            add_line(&mut wrong, line)?;
+        }
     }
-    let none = MemoryFiles::new(rt.alloc());
-    assert_eq!(rt;
-        run_words(rt.alloc(), &["-Xshare:auto", "-cp", "", "Main"], none)?.ended,
-        Ended::Usage
-    );
+    Ok(wrong)
+}
+
+#[test]
+fn each_faulty_word_refuses(rt: HostRuntime) -> Result<(), Fail> {
+    assert_eq!(rt; words_that_run(rt.alloc())?.as_str(), "");
+    Ok(())
+}
+
+// ---- classes that were edited
+
+// Adds what stands before an edit's place and its new bytes, and answers the place behind what goes.
+fn push_edit(class: &[u8], place: usize, edit: &str, bytes: &mut Vec<u8>) -> Result<usize, Fail> {
+    let mut numbers = edit.split_whitespace();
+    let at = numbers.next().ok_or("no place")?.parse::<usize>()?;
+    let cut = numbers.next().ok_or("no number")?.parse::<usize>()?;
+    if !(place <= at && at <= class.len() && cut <= class.len() - at) {
+        return Err(Fail::from("no place of the class"));
+    }
+    bytes.extend_from_slice(&class[place..at])?;
+    for number in numbers {
+        bytes.push(number.parse::<u8>()?)?;
+    }
+    Ok(at + cut)
+}
+
+// The class that a line's edits make.
+fn edited(alloc: Global, edits: &str) -> Result<Vec<u8>, Fail> {
+    let class = &PUTS_42_AND_MINUS_1;
+    let mut bytes = Vec::new(alloc);
+    let mut place = 0;
+    for edit in edits.split(';').skip(1) {
+        place = push_edit(class, place, edit, &mut bytes)?;
+    }
+    if place > class.len() {
+        return Err(Fail::from("behind the class"));
+    }
+    bytes.extend_from_slice(&class[place..])?;
+    Ok(bytes)
+}
+
+// What a run of a class tells.
+fn run_main(alloc: Global, class: &[u8]) -> Result<String, Fail> {
+    let mut bench = Bench::new(alloc);
+    bench.files.with("app/Main.class", class)?;
+    let mut said = String::new(alloc);
+    say_run(&mut bench, RUN, &mut said)?;
+    Ok(said)
+}
+
+fn run_edited(alloc: Global, edits: &str) -> Result<String, Fail> {
+    let class = edited(alloc, edits)?;
+    run_main(alloc, &class)
+}
+
+fn classes_that_run(alloc: Global) -> Result<String, Fail> {
+    let mut wrong = String::new(alloc);
     for line in REFUSED.lines() {
-        refuses_class(&rt, rt.alloc(), line)?;
+        if run_edited(alloc, line)?.as_str() != "9||unsupported Main~" {
+            add_line(&mut wrong, line)?;
+        }
     }
+    Ok(wrong)
+}
+
+#[test]
+fn each_narrowing_refuses(rt: HostRuntime) -> Result<(), Fail> {
+    assert_eq!(rt; classes_that_run(rt.alloc())?.as_str(), "");
     Ok(())
 }
 
-// The text with an end of a line for each slash.
-fn lines_of(alloc: Global, text: &str) -> Result<Vec<u8>, Fail> {
-    let mut lines = Vec::new(alloc);
-    for b in text.as_bytes() {
-        lines.push(if *b == b'/' { b'\n' } else { *b })?;
-    }
-    Ok(lines)
+// What a run tells that puts these lines, which end at slashes, and exits.
+fn puts(alloc: Global, lines: &str) -> Result<String, Fail> {
+    let lines = lines.trim().replace(alloc, '/', "~")?;
+    Ok(format!(in alloc; "0|{lines}|")?)
 }
 
-fn accepts_class(rt: &impl Abort, alloc: Global, line: &str) -> Result<(), Fail> {
-    let (edits, wanted) = line.split_once('=').ok_or("no output")?;
-    let class = edited(rt, alloc, edits)?;
-    let done = run_main(alloc, &class)?;
-    assert_eq!(rt; done.ended, Ended::Exit(0), "{line}");
-    let lines = lines_of(alloc, wanted.trim())?;
-    assert_eq!(rt; done.out.bytes(), lines.as_slice(), "{line}");
-    Ok(())
+fn classes_that_put_other_lines(alloc: Global) -> Result<String, Fail> {
+    let mut wrong = String::new(alloc);
+    for line in ACCEPTED.lines() {
+        let (edits, lines) = line.split_once('=').unwrap_or((line, ""));
+        let said = run_edited(alloc, edits)?;
+        if said.as_str() != puts(alloc, lines)?.as_str() {
+            add_line(&mut wrong, line)?;
+        }
+    }
+    Ok(wrong)
 }
 
 #[test]
 fn what_no_narrowing_names_is_accepted(rt: HostRuntime) -> Result<(), Fail> {
-    for line in ACCEPTED.lines() {
-        accepts_class(&rt, rt.alloc(), line)?;
-    }
+    assert_eq!(rt; classes_that_put_other_lines(rt.alloc())?.as_str(), "");
     Ok(())
 }
 
-// Whether the bytes are lines of numbers.
-fn are_lines(bytes: &[u8]) -> bool {
-    bytes
-        .iter()
-        .all(|b| matches!(b, b'-' | b'\n' | b'0'..=b'9'))
+// Whether a run exits with lines of numbers, or refuses its class.
+fn is_sound(said: &str) -> bool {
+    match said.strip_prefix("0|") {
+        Some(lines) => are_lines(lines.strip_suffix("|").unwrap_or("?").as_bytes()),
+        None => said == "9||unsupported Main~",
+    }
 }
 
-fn answers_at_each_byte(rt: &impl Abort, alloc: Global, value: u8) -> Result<(), Fail> {
-    for at in 0..PUTS_42_AND_MINUS_1.len() {
-        let mut class = Vec::from_slice(alloc, &PUTS_42_AND_MINUS_1)?;
-        class[at] = value;
-        let done = run_main(alloc, &class)?;
-        if done.ended == Ended::Exit(0) {
-            assert!(rt; are_lines(done.out.bytes()));
-            assert_eq!(rt; done.err.bytes(), b"".as_slice());
-        } else {
-            assert_eq!(rt; done.ended, Ended::Unsupported);
-            assert_eq!(rt; done.out.bytes(), b"".as_slice());
+fn are_lines(bytes: &[u8]) -> bool {
+    bytes.iter().all(|b| matches!(b, b'-' | b'~' | b'0'..=b'9'))
+}
+
+fn is_sound_with(alloc: Global, place: usize, value: u8) -> Result<bool, Fail> {
+    let mut class = Vec::from_slice(alloc, &PUTS_42_AND_MINUS_1)?;
+    if place < class.len() {
+        class[place] = value;
+    }
+    let said = run_main(alloc, &class)?;
+    Ok(is_sound(said.as_str()))
+}
+
+// The places at which the class with another byte answers neither way.
+fn places_of(alloc: Global, value: u8, wrong: &mut String) -> Result<(), Fail> {
+    for place in 0..PUTS_42_AND_MINUS_1.len() {
+        if !is_sound_with(alloc, place, value)? {
+            wrong.push_str(&format!(in alloc; "{value} at {place} ")?)?;
         }
     }
     Ok(())
@@ -392,136 +298,122 @@ fn answers_at_each_byte(rt: &impl Abort, alloc: Global, value: u8) -> Result<(),
 
 #[test]
 fn each_byte_may_be_changed(rt: HostRuntime) -> Result<(), Fail> {
+    let mut wrong = String::new(rt.alloc());
     for value in [0, 1, 2, 7, 10, 12, 96, 127, 128, 177, 184, 255] {
-        answers_at_each_byte(&rt, rt.alloc(), value)?;
+        places_of(rt.alloc(), value, &mut wrong)?;
     }
+    assert_eq!(rt; wrong.as_str(), "");
     Ok(())
 }
 
-// Calls that fail: one of the store, one put of out and one of err, each counted from 1, and how many bytes are kept.
-#[derive(Clone, Copy)]
-struct Failing {
-    read: u64,
-    put: u64,
-    told: u64,
-    kept: u64,
+// ---- failures
+
+// The first bytes of a text, or all of it.
+fn first(text: &str, count: u64) -> &str {
+    text.get(..count as usize).unwrap_or(text)
 }
 
-const NOTHING_FAILS: Failing = Failing {
-    read: 0,
-    put: 0,
-    told: 0,
-    kept: 0,
-};
+// A run of the compiled class where a call of the store, a put of out and one of err fail, counted from 1, and so many bytes
+// are kept: what it tells, and how many files are read. With a limit of 8 turns it puts all and is stopped.
+fn run_failing(
+    alloc: Global,
+    steps: &str,
+    read: u64,
+    out: Planned,
+    err: Planned,
+) -> Result<String, Fail> {
+    let mut bench = Bench::new(alloc);
+    bench.files.with("app/Main.class", &PUTS_42_AND_MINUS_1)?;
+    bench.files.fail(read, out.kept)?;
+    bench.out = out;
+    bench.err = err;
+    let line = format!(in alloc; "-Xshare:auto -cp app {steps} Main")?;
+    let mut said = String::new(alloc);
+    say_run(&mut bench, line.as_str(), &mut said)?;
+    said.push_str(&format!(in alloc; " {}", bench.files.reads().len())?)?;
+    Ok(said)
+}
 
-// Runs the class that was compiled over an outside that fails. With a limit of 8 turns it puts all and is stopped.
-fn run_failing(alloc: Global, steps: &str, failing: Failing) -> Result<Done, Fail> {
-    let mut files = MemoryFiles::new(alloc);
-    files.with("app/Main.class", &PUTS_42_AND_MINUS_1)?;
-    files.fail(failing.read, failing.kept)?;
-    let mut out = MemorySink::new(alloc);
-    out.fail(failing.put, failing.kept)?;
-    let mut err = MemorySink::new(alloc);
-    err.fail(failing.told, failing.kept)?;
-    let mut words = Vec::new(alloc);
-    for word in ["-Xshare:auto", "-cp", "app", steps, "Main"] {
-        words.push(String::from_str(alloc, word)?)?;
-    }
-    let (ended, files) = run_command(alloc, &words, files, &mut out, &mut err);
-    Ok(Done {
-        ended,
-        out,
-        err,
-        files,
+fn planned(put: u64, kept: u64) -> Planned {
+    Planned { put, kept }
+}
+
+// A run whose call of the store fails.
+fn read_fails(alloc: Global, call: u64, kept: u64) -> Result<bool, Fail> {
+    let said = run_failing(alloc, "--steps=9", call, planned(0, kept), planned(0, kept))?;
+    Ok(
+        said.as_str()
+            == if call == 1 {
+                "11||read fault~ 0"
+            } else {
+                "0|42~-1~| 1"
+            },
+    )
+}
+
+fn put_told(alloc: Global, put: u64, kept: u64) -> Result<String, Fail> {
+    Ok(match put {
+        1 => format!(in alloc; "12|{}|write fault~ 1", first("42~", kept))?,
+        2 => format!(in alloc; "12|42~{}|write fault~ 1", first("-1~", kept))?,
+        _ => format!(in alloc; "0|42~-1~| 1")?,
     })
 }
 
-// The first bytes of a text, or all of it.
-fn first(text: &[u8], count: u64) -> &[u8] {
-    &text[..text.len().min(count as usize)]
+// A run whose put of out fails.
+fn put_fails(alloc: Global, put: u64, kept: u64) -> Result<bool, Fail> {
+    let said = run_failing(alloc, "--steps=9", 0, planned(put, kept), planned(0, kept))?;
+    Ok(said.as_str() == put_told(alloc, put, kept)?.as_str())
 }
 
-fn a_read_fails(rt: &impl Abort, alloc: Global, failing: Failing) -> Result<bool, Fail> {
-    let done = run_failing(alloc, "--steps=9", failing)?;
-    if failing.read > 1 {
-        assert_eq!(rt; done.ended, Ended::Exit(0));
-        assert_eq!(rt; done.out.bytes(), b"42\n-1\n".as_slice());
-        assert_eq!(rt; done.files.reads().len(), 1);
-        return Ok(false);
+// A run whose line fails, after which nothing else is told.
+fn line_fails(alloc: Global, put: u64, kept: u64) -> Result<bool, Fail> {
+    let said = run_failing(alloc, "--steps=8", 0, planned(0, kept), planned(put, kept))?;
+    let line = "stopped after 8 steps~";
+    let line = if put == 1 { first(line, kept) } else { line };
+    Ok(said.as_str() == format!(in alloc; "8|42~-1~|{line} 1")?.as_str())
+}
+
+// A run whose read fails, and the line that tells it too.
+fn both_fail(alloc: Global, kept: u64) -> Result<bool, Fail> {
+    let said = run_failing(alloc, "--steps=9", 1, planned(0, kept), planned(1, kept))?;
+    let line = first("read fault~", kept);
+    Ok(said.as_str() == format!(in alloc; "11||{line} 0")?.as_str())
+}
+
+fn note(alloc: Global, wrong: &mut String, what: &str, number: u64, kept: u64) -> Result<(), Fail> {
+    wrong.push_str(&format!(in alloc; "{what} {number}, {kept} kept\n")?)?;
+    Ok(())
+}
+
+// A call of the store, a put of out and a put of err fail in turn.
+fn add_failing(alloc: Global, number: u64, kept: u64, wrong: &mut String) -> Result<(), Fail> {
+    if !read_fails(alloc, number, kept)? {
+        note(alloc, wrong, "read", number, kept)?;
     }
-    assert_eq!(rt; done.ended, Ended::ReadFault);
-    assert_eq!(rt; status(done.ended), 11);
-    assert_eq!(rt; done.out.bytes(), b"".as_slice());
-    assert_eq!(rt; done.err.bytes(), b"read fault\n".as_slice());
-    assert_eq!(rt; done.files.reads().len(), 0);
-    Ok(true)
+    if !put_fails(alloc, number, kept)? {
+        note(alloc, wrong, "put", number, kept)?;
+    }
+    if !line_fails(alloc, number, kept)? {
+        note(alloc, wrong, "line", number, kept)?;
+    }
+    Ok(())
 }
 
-fn a_put_fails(rt: &impl Abort, alloc: Global, failing: Failing) -> Result<bool, Fail> {
-    let done = run_failing(alloc, "--steps=9", failing)?;
-    let mut wanted = Vec::new(alloc);
-    for (put, line) in [(1, b"42\n".as_slice()), (2, b"-1\n".as_slice())] {
-        if put < failing.put {
-            wanted.extend_from_slice(line)?;
-        } else if put == failing.put {
-            wanted.extend_from_slice(first(line, failing.kept))?;
+fn wrong_failures(alloc: Global) -> Result<String, Fail> {
+    let mut wrong = String::new(alloc);
+    for kept in 0..25 {
+        for number in 1..10 {
+            add_failing(alloc, number, kept, &mut wrong)?;
+        }
+        if !both_fail(alloc, kept)? {
+            note(alloc, &mut wrong, "both", 1, kept)?;
         }
     }
-    assert_eq!(rt; done.out.bytes(), wanted.as_slice());
-    if failing.put > 2 {
-        assert_eq!(rt; done.ended, Ended::Exit(0));
-        assert_eq!(rt; done.err.bytes(), b"".as_slice());
-        return Ok(false);
-    }
-    assert_eq!(rt; done.ended, Ended::WriteFault);
-    assert_eq!(rt; status(done.ended), 12);
-    assert_eq!(rt; done.err.bytes(), b"write fault\n".as_slice());
-    Ok(true)
-}
-
-fn a_line_fails(rt: &impl Abort, alloc: Global, failing: Failing) -> Result<bool, Fail> {
-    let done = run_failing(alloc, "--steps=8", failing)?;
-    let line = b"stopped after 8 steps\n".as_slice();
-    assert_eq!(rt; done.ended, Ended::Stopped);
-    assert_eq!(rt; done.out.bytes(), b"42\n-1\n".as_slice());
-    if failing.told > 1 {
-        assert_eq!(rt; done.err.bytes(), line);
-        return Ok(false);
-    }
-    assert_eq!(rt; done.err.bytes(), first(line, failing.kept));
-    Ok(true)
-}
-
-// A call of the store, a put of out and a put of err fail in turn, until a run meets no failure.
-fn each_fails_in_turn(rt: &impl Abort, alloc: Global, kept: u64) -> Result<(), Fail> {
-    let mut failing = NOTHING_FAILS;
-    failing.kept = kept;
-    for read in 1..10 {
-        failing.read = read;
-        assert_eq!(rt; a_read_fails(rt, alloc, failing)?, read == 1);
-    }
-    failing.read = 0;
-    for put in 1..10 {
-        failing.put = put;
-        assert_eq!(rt; a_put_fails(rt, alloc, failing)?, put <= 2);
-    }
-    failing.put = 0;
-    for told in 1..10 {
-        failing.told = told;
-        assert_eq!(rt; a_line_fails(rt, alloc, failing)?, told == 1);
-    }
-    failing.read = 1;
-    failing.told = 1;
-    let done = run_failing(alloc, "--steps=9", failing)?;
-    assert_eq!(rt; done.ended, Ended::ReadFault);
-    assert_eq!(rt; done.err.bytes(), first(b"read fault\n".as_slice(), kept));
-    Ok(())
+    Ok(wrong)
 }
 
 #[test]
 fn each_failure_of_the_outside_is_told_and_loses_nothing(rt: HostRuntime) -> Result<(), Fail> {
-    for kept in 0..25 {
-        each_fails_in_turn(&rt, rt.alloc(), kept)?;
-    }
+    assert_eq!(rt; wrong_failures(rt.alloc())?.as_str(), "");
     Ok(())
 }

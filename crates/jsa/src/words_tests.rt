@@ -1,50 +1,20 @@
 // The words of the commands, and what they ask for.
-use jsa_command::{Command, Share, class_path, read_words};
 use home_run::HomeRun;
+use jsa_command::{Command, RunWords, Share, class_path, read_words};
+use std::alloc::Global;
 use std::test::Fail;
 
-// A folder and a main class, and the path of the file where they are a request with an archive option.
-const CASES: [(&str, &str, &str); 18] = [
-    ("app", "Main", "app/Main.class"),
-    ("a b/c", "x.y_1.Z$", "a b/c/x/y_1/Z$.class"),
-    ("**", "A", "**/A.class"),
-    ("jar", "9", "jar/9.class"),
-    ("a.jar/", "A", "a.jar//A.class"),
-    ("a.JAR", "A", "a.JAR/A.class"),
-    ("", "A", ""),
-    ("*", "A", ""),
-    ("a:b", "A", ""),
-    ("a.jar", "A", ""),
-    (".zip", "A", ""),
-    ("app", "", ""),
-    ("app", ".A", ""),
-    ("app", "A.", ""),
-    ("app", "a..B", ""),
-    ("app", "a/B", ""),
-    ("app", "a-B", ""),
-    ("app", "\u{e9}", ""),
-];
-
-fn words_of(rt: &HostRuntime, words: &[&str]) -> Result<Vec<String>, Fail> {
-    let mut all = Vec::new(rt.alloc());
-    for word in words {
-        all.push(String::from_str(rt.alloc(), word)?)?;
+// The words of a line, which are separated by this character.
+fn words_of(alloc: Global, line: &str, between: char) -> Result<Vec<String>, Fail> {
+    let mut words = Vec::new(alloc);
+    for word in line.split(between) {
+        words.push(String::from_str(alloc, word)?)?;
     }
-    Ok(all)
+    Ok(words)
 }
 
-// The words of a line, which are separated by spaces.
-fn words_in(rt: &HostRuntime, line: &str) -> Result<Vec<String>, Fail> {
-    let mut all = Vec::new(rt.alloc());
-    for word in line.split(' ') {
-        all.push(String::from_str(rt.alloc(), word)?)?;
-    }
-    Ok(all)
-}
-
-// The same of a run over a home: the main class, the home, the folders, the list and the limit.
-fn home_run_told(rt: &HostRuntime, run: &HomeRun) -> Result<String, Fail> {
-    let alloc = rt.alloc();
+// Of a run over a home the main class, the home, the folders, the list and the limit.
+fn home_run_told(alloc: Global, run: &HomeRun) -> Result<String, Fail> {
     let mut folders = String::new(alloc);
     for folder in &run.folders {
         folders.push_str(folder.as_str())?;
@@ -55,42 +25,83 @@ fn home_run_told(rt: &HostRuntime, run: &HomeRun) -> Result<String, Fail> {
     Ok(format!(in alloc; "home {name} {} [{folders}] {list} {}", run.home, run.steps)?)
 }
 
+fn run_told(alloc: Global, run: &RunWords) -> Result<String, Fail> {
+    let path = class_path(run)?;
+    let share = match run.share {
+        Share::Auto => "auto",
+        Share::On => "on",
+    };
+    let archive = run.archive.as_deref().unwrap_or("-");
+    Ok(format!(in alloc; "run {path} {share} {archive} {}", run.steps)?)
+}
+
 // What words ask for, as a text: empty where it is nothing.
-fn told(rt: &HostRuntime, words: &[String]) -> Result<String, Fail> {
-    let alloc = rt.alloc();
+fn told(alloc: Global, words: &[String]) -> Result<String, Fail> {
     Ok(match read_words(alloc, words)? {
         None => String::new(alloc),
-        Some(Command::Run(run)) => {
-            let path = class_path(&run)?;
-            let share = match run.share {
-                Share::Auto => "auto",
-                Share::On => "on",
-            };
-            let archive = run.archive.as_deref().unwrap_or("-");
-            format!(in alloc; "run {path} {share} {archive} {}", run.steps)?
-        }
+        Some(Command::Run(run)) => run_told(alloc, &run)?,
         Some(Command::Dump(dump)) => {
             format!(in alloc; "dump {} {} {}", dump.folder, dump.archive, dump.list)?
         }
         Some(Command::Asm(asm)) => format!(in alloc; "asm {} {}", asm.text, asm.folder)?,
-        Some(Command::HomeRun(run)) => home_run_told(rt, &run)?,
+        Some(Command::HomeRun(run)) => home_run_told(alloc, &run)?,
         Some(Command::MakeHome(folder)) => format!(in alloc; "make {folder}")?,
     })
 }
 
+fn add_other(wrong: &mut String, row: &str, said: &str, wanted: &str) -> Result<(), Fail> {
+    if said != wanted {
+        wrong.push_str(row)?;
+        wrong.push_str(" but ")?;
+        wrong.push_str(said)?;
+        wrong.push_str("\n")?;
+    }
+    Ok(())
+}
+
+// A folder and a main class, and the path of the file where they are a request with an archive option.
+static CASES: &str = "\
+app|Main = app/Main.class
+a b/c|x.y_1.Z$ = a b/c/x/y_1/Z$.class
+**|A = **/A.class
+jar|9 = jar/9.class
+a.jar/|A = a.jar//A.class
+a.JAR|A = a.JAR/A.class
+|A = 
+*|A = 
+a:b|A = 
+a.jar|A = 
+.zip|A = 
+app| = 
+app|.A = 
+app|A. = 
+app|a..B = 
+app|a/B = 
+app|a-B = 
+app|\u{e9} = ";
+
+fn path_asked(alloc: Global, case: &str) -> Result<String, Fail> {
+    let words = format!(in alloc; "-Xshare:auto|-cp|{case}")?;
+    let words = words_of(alloc, words.as_str(), '|')?;
+    match read_words(alloc, &words)? {
+        Some(Command::Run(run)) => Ok(class_path(&run)?),
+        Some(_) => Ok(String::from_str(alloc, "another command")?),
+        None => Ok(String::new(alloc)),
+    }
+}
+
+fn wrong_cases(alloc: Global) -> Result<String, Fail> {
+    let mut wrong = String::new(alloc);
+    for row in CASES.lines() {
+        let (case, path) = row.split_once(" = ").unwrap_or((row, ""));
+        add_other(&mut wrong, row, path_asked(alloc, case)?.as_str(), path)?;
+    }
+    Ok(wrong)
+}
+
 #[test]
 fn folders_and_main_classes(rt: HostRuntime) -> Result<(), Fail> {
-    for (folder, main, path) in CASES {
-        let words = words_of(&rt, &["-Xshare:auto", "-cp", folder, main])?;
-        match read_words(rt.alloc(), &words)? {
-            Some(Command::Run(run)) => assert_eq!(rt; class_path(&run)?.as_str(), path),
-            Some(Command::Dump(_dump)) => assert!(rt; false),
-            Some(Command::Asm(_asm)) => assert!(rt; false),
-            Some(Command::HomeRun(_run)) => assert!(rt; false),
-            Some(Command::MakeHome(_folder)) => assert!(rt; false),
-            None => assert_eq!(rt; path, "", "at {folder} {main}"),
-        }
-    }
+    assert_eq!(rt; wrong_cases(rt.alloc())?.as_str(), "");
     Ok(())
 }
 
@@ -250,47 +261,73 @@ Main  =
 --MAKE-HOME h =
 --make-home=h =";
 
+fn wrong_lines(alloc: Global) -> Result<String, Fail> {
+    let mut wrong = String::new(alloc);
+    for row in LINES.lines() {
+        let (words, asked) = row.split_once(" =").unwrap_or((row, "?"));
+        let words = words_of(alloc, words, ' ')?;
+        add_other(&mut wrong, row, told(alloc, &words)?.as_str(), asked.trim())?;
+    }
+    Ok(wrong)
+}
+
 #[test]
 fn words_and_what_they_ask_for(rt: HostRuntime) -> Result<(), Fail> {
-    for line in LINES.lines() {
-        let Some((words, asked)) = line.split_once(" =") else {
-            return Err(Fail::from("no line"));
-        };
-        let words = words_in(&rt, words)?;
-        let told = told(&rt, &words)?;
-        assert_eq!(rt; told.as_str(), asked.trim(), "at {line}");
-    }
+    assert_eq!(rt; wrong_lines(rt.alloc())?.as_str(), "");
     Ok(())
 }
 
+// How many folders a class path has, and how many a request then has.
+static FOLDERS: &str = "\
+1 = 1
+63 = 63
+64 = 64
+65 = none
+66 = none";
+
 // A class path of so many folders, of which there is one at least.
-fn path_of(rt: &HostRuntime, folders: usize) -> Result<String, Fail> {
-    let mut path = String::from_str(rt.alloc(), "d")?;
+fn path_of(alloc: Global, folders: usize) -> Result<String, Fail> {
+    let mut path = String::from_str(alloc, "d")?;
     for _ in 1..folders {
         path.push_str(":d")?;
     }
     Ok(path)
 }
 
+fn folders_asked(alloc: Global, count: &str) -> Result<String, Fail> {
+    let path = path_of(alloc, count.parse::<usize>()?)?;
+    let words = format!(in alloc; "-cp {path} Main")?;
+    let words = words_of(alloc, words.as_str(), ' ')?;
+    match read_words(alloc, &words)? {
+        Some(Command::HomeRun(run)) => Ok(format!(in alloc; "{}", run.folders.len())?),
+        Some(_) => Ok(String::from_str(alloc, "another command")?),
+        None => Ok(String::from_str(alloc, "none")?),
+    }
+}
+
+fn wrong_folders(alloc: Global) -> Result<String, Fail> {
+    let mut wrong = String::new(alloc);
+    for row in FOLDERS.lines() {
+        let (count, asked) = row.split_once(" = ").unwrap_or((row, ""));
+        add_other(
+            &mut wrong,
+            row,
+            folders_asked(alloc, count)?.as_str(),
+            asked,
+        )?;
+    }
+    Ok(wrong)
+}
+
 #[test]
 fn a_class_path_has_64_folders_at_most(rt: HostRuntime) -> Result<(), Fail> {
-    for (count, is_taken) in [(1, true), (63, true), (64, true), (65, false), (66, false)] {
-        let path = path_of(&rt, count)?;
-        let words = words_of(&rt, &["-cp", path.as_str(), "Main"])?;
-        match read_words(rt.alloc(), &words)? {
-            Some(Command::HomeRun(run)) => {
-                assert_eq!(rt; (run.folders.len(), true), (count, is_taken));
-            }
-            Some(_other) => assert!(rt; false),
-            None => assert!(rt; !is_taken, "at {count}"),
-        }
-    }
+    assert_eq!(rt; wrong_folders(rt.alloc())?.as_str(), "");
     Ok(())
 }
 
 #[test]
 fn no_words_are_no_request(rt: HostRuntime) -> Result<(), Fail> {
-    let none = words_of(&rt, &[])?;
-    assert_eq!(rt; told(&rt, &none)?.as_str(), "");
+    let none = Vec::new(rt.alloc());
+    assert_eq!(rt; told(rt.alloc(), &none)?.as_str(), "");
     Ok(())
 }
