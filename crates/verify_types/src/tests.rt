@@ -1,5 +1,5 @@
 // What no contract says: that the definitions are the standard's, by tables that were made by hand; and each public function
-// once.
+// once. A row is a call, and behind ` = ` what it answers.
 use crate::test_tables::{TABLES, WHOLE};
 use crate::{
     Frame, Places, TypeStack, Unfinished, VType, VerifyFault, all_copied, copied, frame_copied,
@@ -7,199 +7,466 @@ use crate::{
 };
 use class_tree::{CodeTree, Pool, PoolEntry};
 use sqlite_items::Items;
-use std::alloc::Global;
-use std::test::Fail;
+use std::alloc::{AllocError, Global};
 
 // new A, dup, goto 7, return
-static CODE: [u8; 8] = [0xbb, 0, 2, 0x59, 0xa7, 0, 3, 0xb1];
+static CODE: &str = "bb 00 02 59 a7 00 03 b1";
+
+// goto 3, return
+static GOTO: &str = "a7 00 03 b1";
 
 // ---- what goes in
 
-// A, its Class, [I, its Class, a Class that names nothing, and a number.
-fn pool(alloc: Global) -> Result<Pool, Fail> {
+// An item of a pool: A, its Class, [I, its Class, a Class that names nothing, and a number.
+fn entry(alloc: Global, index: u16) -> PoolEntry {
+    match index {
+        0 => PoolEntry::Unusable,
+        1 => text_entry(alloc, b"A"),
+        2 => PoolEntry::Class(1),
+        3 => text_entry(alloc, b"[I"),
+        4 => PoolEntry::Class(3),
+        5 => PoolEntry::Class(9),
+        _ => PoolEntry::Integer(7),
+    }
+}
+
+fn text_entry(alloc: Global, text: &[u8]) -> PoolEntry {
+    match Items::from_slice(alloc, text) {
+        Ok(text) => PoolEntry::Utf8(text),
+        Err(_) => PoolEntry::Unusable,
+    }
+}
+
+fn pool(alloc: Global) -> Pool {
     let mut entries = Items::new(alloc);
-    entries.push(PoolEntry::Unusable)?;
-    entries.push(PoolEntry::Utf8(Items::from_slice(alloc, b"A")?))?;
-    entries.push(PoolEntry::Class(1))?;
-    entries.push(PoolEntry::Utf8(Items::from_slice(alloc, b"[I")?))?;
-    entries.push(PoolEntry::Class(3))?;
-    entries.push(PoolEntry::Class(9))?;
-    entries.push(PoolEntry::Integer(7))?;
-    Ok(Pool::new(entries))
+    for index in 0..7 {
+        let _kept = entries.push(entry(alloc, index));
+    }
+    Pool::new(entries)
 }
 
-fn code(alloc: Global, locals: u16, stack: u16, map: Option<Items<u8>>) -> Result<CodeTree, Fail> {
-    Ok(CodeTree {
-        stack,
-        locals,
-        bytes: Items::from_slice(alloc, &CODE)?,
-        handlers: Items::new(alloc),
-        map,
-    })
-}
-
-fn type_of(letter: char) -> Result<VType, Fail> {
+// A type by its letter. One that stands for none is a place that no row names.
+fn type_of(letter: char) -> VType {
     match letter {
-        '.' => Ok(VType::Top),
-        'I' => Ok(VType::Integer),
-        'F' => Ok(VType::Float),
-        'D' => Ok(VType::Double),
-        'J' => Ok(VType::Long),
-        'N' => Ok(VType::Null),
-        'U' => Ok(VType::UninitializedThis),
-        _ => Err(Fail::from("no type")),
+        '.' => VType::Top,
+        'I' => VType::Integer,
+        'F' => VType::Float,
+        'D' => VType::Double,
+        'J' => VType::Long,
+        'N' => VType::Null,
+        'U' => VType::UninitializedThis,
+        _ => VType::Uninitialized(99),
     }
 }
 
-fn first_frame(alloc: Global, letters: &str) -> Result<Frame, Fail> {
-    let mut locals = Items::new(alloc);
+fn types(alloc: Global, letters: &str) -> Items<VType> {
+    let mut types = Items::new(alloc);
     for letter in letters.chars() {
-        locals.push(type_of(letter)?)?;
+        let _kept = types.push(type_of(letter));
     }
-    Ok(Frame {
-        locals,
-        stack: TypeStack::new(alloc),
-        this_uninit: false,
-    })
+    types
 }
 
-fn bytes(alloc: Global, text: &str) -> Result<Items<u8>, Fail> {
+// Pushes types as far as there is room.
+fn pushed(alloc: Global, room: u16, letters: &str) -> TypeStack {
+    let mut stack = TypeStack::new(alloc);
+    for letter in letters.chars() {
+        let _fits = stack.push(room, type_of(letter));
+    }
+    stack
+}
+
+fn frame(alloc: Global, locals: &str, stack: &str) -> Frame {
+    Frame {
+        locals: types(alloc, locals),
+        stack: pushed(alloc, 3, stack),
+        this_uninit: false,
+    }
+}
+
+// Bytes in hexadecimal.
+fn bytes(alloc: Global, text: &str) -> Items<u8> {
     let mut bytes = Items::new(alloc);
     for word in text.split_whitespace() {
-        bytes.push(u8::from_str_radix(word, 16)?)?;
+        let _kept = bytes.push(u8::from_str_radix(word, 16).unwrap_or(0));
     }
-    Ok(bytes)
+    bytes
+}
+
+// The part of a call at an index.
+fn part(call: &str, at: usize) -> &str {
+    call.split(',').nth(at).unwrap_or("")
+}
+
+fn number(text: &str) -> u16 {
+    text.parse::<u16>().unwrap_or(u16::MAX)
+}
+
+// A StackMapTable; `-` is none.
+fn map_of(alloc: Global, text: &str) -> Option<Items<u8>> {
+    match text {
+        "-" => None,
+        _ => Some(bytes(alloc, text)),
+    }
+}
+
+fn code(alloc: Global, call: &str, code: &str, map: Option<Items<u8>>) -> CodeTree {
+    CodeTree {
+        stack: number(part(call, 2)),
+        locals: number(part(call, 1)),
+        bytes: bytes(alloc, code),
+        handlers: Items::new(alloc),
+        map,
+    }
 }
 
 // ---- what comes out
 
-fn put_type(alloc: Global, text: &mut String, t: &VType) -> Result<(), Fail> {
+// Adds to what is said. Where memory runs out the text is short, and its row wrong.
+fn put(said: &mut String, text: &str) {
+    let _kept = said.push_str(text);
+}
+
+fn say_number(alloc: Global, said: &mut String, number: usize) {
+    if let Ok(text) = format!(in alloc; "{number}") {
+        put(said, text.as_str());
+    }
+}
+
+fn say_place(alloc: Global, said: &mut String, front: &str, place: u32) {
+    put(said, front);
+    say_number(alloc, said, place as usize);
+}
+
+fn say_name(said: &mut String, name: &[u8]) {
+    put(said, "L");
+    put(said, str::from_utf8(name).unwrap_or("no text"));
+    put(said, ";");
+}
+
+fn say_type(alloc: Global, said: &mut String, t: &VType) {
     match t {
-        VType::Top => text.push('.')?,
-        VType::Integer => text.push('I')?,
-        VType::Float => text.push('F')?,
-        VType::Double => text.push('D')?,
-        VType::Long => text.push('J')?,
-        VType::Null => text.push('N')?,
-        VType::UninitializedThis => text.push('U')?,
-        VType::Object(name) => put_name(alloc, text, name.as_slice())?,
-        VType::Uninitialized(place) => text.push_str(&format!(in alloc; "@{place}")?)?,
+        VType::Top => put(said, "."),
+        VType::Integer => put(said, "I"),
+        VType::Float => put(said, "F"),
+        VType::Double => put(said, "D"),
+        VType::Long => put(said, "J"),
+        VType::Null => put(said, "N"),
+        VType::UninitializedThis => put(said, "U"),
+        VType::Object(name) => say_name(said, name.as_slice()),
+        VType::Uninitialized(place) => say_place(alloc, said, "@", *place),
     }
-    Ok(())
 }
 
-fn put_name(alloc: Global, text: &mut String, name: &[u8]) -> Result<(), Fail> {
-    let name = std::str::from_utf8(name).ok().ok_or("no text")?;
-    text.push_str(&format!(in alloc; "L{name};")?)?;
-    Ok(())
+fn say_types(alloc: Global, said: &mut String, types: &[VType]) {
+    for t in types {
+        say_type(alloc, said, t);
+    }
 }
 
-fn put_stack(alloc: Global, text: &mut String, stack: &TypeStack) -> Result<(), Fail> {
+fn say_stack(alloc: Global, said: &mut String, stack: &TypeStack) {
     for at in 0..stack.len() {
-        let t = stack.get(at).ok_or("no type")?;
-        put_type(alloc, text, t)?;
-    }
-    Ok(())
-}
-
-fn put_frame(alloc: Global, text: &mut String, frame: &Frame) -> Result<(), Fail> {
-    for t in frame.locals.as_slice() {
-        put_type(alloc, text, t)?;
-    }
-    text.push('|')?;
-    put_stack(alloc, text, &frame.stack)?;
-    if frame.this_uninit {
-        text.push('!')?;
-    }
-    Ok(())
-}
-
-fn frames_text(alloc: Global, frames: &[(u32, Frame)]) -> Result<String, Fail> {
-    let mut text = String::new(alloc);
-    for (place, frame) in frames {
-        if !text.as_str().is_empty() {
-            text.push(' ')?;
+        if let Some(t) = stack.get(at) {
+            say_type(alloc, said, t);
         }
-        text.push_str(&format!(in alloc; "{place} ")?)?;
-        put_frame(alloc, &mut text, frame)?;
-    }
-    Ok(text)
-}
-
-// The frames that a code declares, as text.
-fn answer(alloc: Global, code: &CodeTree, first: &Frame) -> Result<String, Fail> {
-    let pool = pool(alloc)?;
-    match frames_of(alloc, code, first, &pool) {
-        Ok(frames) => frames_text(alloc, frames.as_slice()),
-        Err(VerifyFault::Bad) => Ok(String::from_str(alloc, "bad")?),
-        Err(VerifyFault::Memory) => Err(Fail::from("no memory")),
     }
 }
 
-// The part of a line at an index.
-fn part(line: &str, at: usize) -> Result<&str, Fail> {
-    let part = line.split(',').nth(at).ok_or("no part")?;
-    Ok(part)
+fn say_frame(alloc: Global, said: &mut String, frame: &Frame) {
+    say_types(alloc, said, frame.locals.as_slice());
+    put(said, "|");
+    say_stack(alloc, said, &frame.stack);
+    put(said, if frame.this_uninit { "!" } else { "" });
 }
 
-fn line_answer(alloc: Global, line: &str) -> Result<String, Fail> {
-    let first = first_frame(alloc, part(line, 0)?)?;
-    let locals = part(line, 1)?.parse::<u16>()?;
-    let stack = part(line, 2)?.parse::<u16>()?;
-    let map = bytes(alloc, part(line, 3)?)?;
-    let code = code(alloc, locals, stack, Some(map))?;
-    answer(alloc, &code, &first)
+fn say_placed(alloc: Global, said: &mut String, frames: &[(u32, Frame)]) {
+    let mut gap = "";
+    for (place, frame) in frames {
+        say_place(alloc, said, gap, *place);
+        put(said, " ");
+        say_frame(alloc, said, frame);
+        gap = " ";
+    }
+}
+
+// The frames that a code declares.
+fn say_frames(alloc: Global, said: &mut String, code: &CodeTree, first: &Frame) {
+    match frames_of(alloc, code, first, &pool(alloc)) {
+        Ok(frames) => say_placed(alloc, said, frames.as_slice()),
+        Err(VerifyFault::Bad) => put(said, "bad"),
+        Err(VerifyFault::Memory) => put(said, "memory"),
+    }
+}
+
+// Those of a code with these bytes and this table.
+fn say_table(alloc: Global, said: &mut String, call: &str, bytes: &str, map: Option<Items<u8>>) {
+    let first = frame(alloc, part(call, 0), "");
+    let code = code(alloc, call, bytes, map);
+    say_frames(alloc, said, &code, &first);
+}
+
+fn say_call(alloc: Global, said: &mut String, call: &str, bytes: &str) {
+    let map = map_of(alloc, part(call, 3));
+    say_table(alloc, said, call, bytes, map);
+}
+
+// ---- places
+
+fn say_instruction(alloc: Global, said: &mut String, places: &Places<'_>, k: usize) {
+    if let Some((place, _, next)) = places.get(k) {
+        say_place(alloc, said, "", place);
+        put(said, if places.is_new(place) { " new" } else { " old" });
+        say_place(alloc, said, " ", next);
+    }
+}
+
+// Each instruction: its place, whether a `new` begins there, and the next place.
+fn say_instructions(alloc: Global, said: &mut String, places: &Places<'_>) {
+    for k in 0..places.len() {
+        say_instruction(alloc, said, places, k);
+        put(said, ";");
+    }
+}
+
+// The places at which instructions begin.
+fn say_starts(alloc: Global, said: &mut String, places: &Places<'_>) {
+    for place in 0..20u32 {
+        if places.is_start(place) {
+            say_place(alloc, said, " ", place);
+        }
+    }
+}
+
+// How many instructions there are, and the place at which decoding stops.
+fn say_bad(alloc: Global, said: &mut String, places: &Places<'_>) {
+    say_number(alloc, said, places.len());
+    match places.bad() {
+        Some(place) => say_place(alloc, said, " ", place),
+        None => put(said, " none"),
+    }
+}
+
+fn same_word(is_same: bool) -> &'static str {
+    if is_same { "same" } else { "other" }
+}
+
+fn say_asked(alloc: Global, said: &mut String, verb: &str, places: &Places<'_>, code: &[u8]) {
+    match verb {
+        "instructions" => say_instructions(alloc, said, places),
+        "starts" => say_starts(alloc, said, places),
+        "code" => put(said, same_word(places.code() == code)),
+        _ => say_bad(alloc, said, places),
+    }
+}
+
+fn say_places(alloc: Global, said: &mut String, verb: &str, code: &[u8]) {
+    match Places::new(alloc, code) {
+        Ok(places) => say_asked(alloc, said, verb, &places, code),
+        Err(_) => put(said, "memory"),
+    }
+}
+
+fn say_bytes(alloc: Global, said: &mut String, verb: &str, words: &str) {
+    let code = bytes(alloc, words);
+    say_places(alloc, said, verb, code.as_slice());
+}
+
+// A code of so many nops.
+fn say_nops(alloc: Global, said: &mut String, words: &str) {
+    let mut code = Items::new(alloc);
+    for _ in 0..words.parse::<u32>().unwrap_or(0) {
+        let _kept = code.push(0u8);
+    }
+    say_places(alloc, said, "bad", code.as_slice());
+}
+
+// ---- stacks and copies
+
+// The units of the type below the top.
+fn second_size(stack: &TypeStack) -> u16 {
+    if 1 < stack.len() {
+        size(item(stack, 1))
+    } else {
+        u16::MAX
+    }
+}
+
+fn full_word(stack: &mut TypeStack, room: u16) -> &'static str {
+    match stack.push(room, VType::Top) {
+        Ok(false) => " full",
+        _ => " fits",
+    }
+}
+
+// The top, and whether there is room for one more in three units then.
+fn say_top(alloc: Global, said: &mut String, stack: &mut TypeStack) {
+    if let Some(top) = stack.pop() {
+        say_type(alloc, said, &top);
+    }
+    put(said, full_word(stack, 3));
+}
+
+fn say_stack_copy(alloc: Global, said: &mut String, stack: &TypeStack) {
+    if let Ok(copy) = stack_copied(alloc, stack) {
+        say_stack(alloc, said, &copy);
+    }
+}
+
+// What is asked of a stack, by its room and its letters.
+fn say_pushed(alloc: Global, said: &mut String, verb: &str, words: &str) {
+    let (room, letters) = words.split_once(' ').unwrap_or((words, ""));
+    let mut stack = pushed(alloc, number(room), letters);
+    match verb {
+        "pushed" => say_stack(alloc, said, &stack),
+        "count" => say_number(alloc, said, stack.len()),
+        "second" => say_number(alloc, said, usize::from(second_size(&stack))),
+        "top" => say_top(alloc, said, &mut stack),
+        _ => say_stack_copy(alloc, said, &stack),
+    }
+}
+
+// Turns `this` in the locals and on the stack.
+fn turn(alloc: Global, frame: &mut Frame, new: &VType) {
+    if size(new) == 1 {
+        let this = Unfinished::ThisObject;
+        let _locals = turn_locals(alloc, &mut frame.locals, this, new);
+        let _stack = frame.stack.turn_all(alloc, this, new);
+    }
+}
+
+fn say_frame_copy(alloc: Global, said: &mut String, frame: &Frame) {
+    if let Ok(copy) = frame_copied(alloc, frame) {
+        say_frame(alloc, said, &copy);
+    }
+}
+
+// A copy of a frame in which `this` is turned into an A.
+fn say_turned(alloc: Global, said: &mut String, words: &str) {
+    let (locals, stack) = words.split_once(' ').unwrap_or((words, ""));
+    let mut frame = frame(alloc, locals, stack);
+    if let Ok(name) = Items::from_slice(alloc, b"A") {
+        turn(alloc, &mut frame, &VType::Object(name));
+    }
+    say_frame_copy(alloc, said, &frame);
+}
+
+// Whether the object that was made at 7 is the one of a word, `this` or the place of a `new`.
+fn is_made(words: &str) -> bool {
+    let old = match words {
+        "this" => Unfinished::ThisObject,
+        _ => Unfinished::MadeAt(u32::from(number(words))),
+    };
+    is_copy_of(old, &VType::Uninitialized(7))
+}
+
+fn say_made_copy(alloc: Global, said: &mut String, words: &str) {
+    let made = VType::Uninitialized(u32::from(number(words)));
+    if let Ok(copy) = copied(alloc, &made) {
+        say_type(alloc, said, &copy);
+    }
+}
+
+fn say_all_copied(alloc: Global, said: &mut String, letters: &str) {
+    let types = types(alloc, letters);
+    if let Ok(copies) = all_copied(alloc, types.as_slice()) {
+        say_types(alloc, said, copies.as_slice());
+    }
+}
+
+// ---- rows
+
+// What one call answers.
+fn say(alloc: Global, said: &mut String, call: &str) {
+    let (verb, words) = call.split_once(' ').unwrap_or((call, ""));
+    match verb {
+        "table" => say_call(alloc, said, words, CODE),
+        "goto" => say_call(alloc, said, words, GOTO),
+        "nops" => say_nops(alloc, said, words),
+        "turned" => say_turned(alloc, said, words),
+        "made" => put(said, same_word(is_made(words))),
+        "made_copy" => say_made_copy(alloc, said, words),
+        "all_copied" => say_all_copied(alloc, said, words),
+        "pushed" | "count" | "second" | "top" | "stack_copied" => {
+            say_pushed(alloc, said, verb, words)
+        }
+        _ => say_bytes(alloc, said, verb, words),
+    }
+}
+
+fn put_wrong(wrong: &mut String, row: &str, said: &str) -> Result<(), AllocError> {
+    wrong.push_str(row)?;
+    wrong.push_str(" but ")?;
+    wrong.push_str(said)
+}
+
+fn put_row(alloc: Global, wrong: &mut String, row: &str) -> Result<(), AllocError> {
+    let (call, wanted) = row.split_once(" = ").unwrap_or((row, "no answer"));
+    let mut said = String::new(alloc);
+    say(alloc, &mut said, call);
+    if said.as_str() == wanted {
+        return Ok(());
+    }
+    put_wrong(wrong, row, said.as_str())
+}
+
+// The rows that are wrong.
+fn wrong_rows(alloc: Global, rows: &str) -> Result<String, AllocError> {
+    let mut wrong = String::new(alloc);
+    for row in rows.lines() {
+        put_row(alloc, &mut wrong, row)?;
+    }
+    Ok(wrong)
 }
 
 #[test]
-fn tables_declare_the_frames_that_the_rules_say(rt: HostRuntime) -> Result<(), Fail> {
-    for line in TABLES.lines() {
-        let answer = line_answer(rt.alloc(), line)?;
-        assert_eq!(rt; answer.as_str(), part(line, 4)?, "{line}");
-    }
+fn tables_declare_the_frames_that_the_rules_say(rt: HostRuntime) -> Result<(), AllocError> {
+    assert_eq!(rt; wrong_rows(rt.alloc(), TABLES)?.as_str(), "");
     Ok(())
 }
 
-// The answer where the table of the line is this one.
-fn answer_to(alloc: Global, line: &str, map: &[u8]) -> Result<String, Fail> {
-    let first = first_frame(alloc, part(line, 0)?)?;
-    let map = Items::from_slice(alloc, map)?;
-    let code = code(alloc, 4, 4, Some(map))?;
-    answer(alloc, &code, &first)
+// The whole table with the frames that it declares.
+fn whole_row() -> (&'static str, &'static str) {
+    let row = WHOLE.strip_prefix("table ").unwrap_or("");
+    row.split_once(" = ").unwrap_or(("", ""))
 }
 
-#[test]
-fn a_table_is_read_to_its_end(rt: HostRuntime) -> Result<(), Fail> {
-    let mut map = bytes(rt.alloc(), part(WHOLE, 3)?)?;
-    for size in 0..map.len() {
-        let cut = answer_to(rt.alloc(), WHOLE, &map.as_slice()[..size])?;
-        assert_eq!(rt; cut.as_str(), "bad", "{size} bytes");
+// Notes a front of the whole table that isn't read as wanted.
+fn put_front(
+    alloc: Global,
+    wrong: &mut String,
+    front: &[u8],
+    wanted: &str,
+) -> Result<(), AllocError> {
+    let mut said = String::new(alloc);
+    let map = Items::from_slice(alloc, front)?;
+    say_table(alloc, &mut said, whole_row().0, CODE, Some(map));
+    if said.as_str() == wanted {
+        return Ok(());
     }
-    let whole = answer_to(rt.alloc(), WHOLE, map.as_slice())?;
-    assert_eq!(rt; whole.as_str(), part(WHOLE, 4)?);
-    map.push(0)?;
-    let longer = answer_to(rt.alloc(), WHOLE, map.as_slice())?;
-    assert_eq!(rt; longer.as_str(), "bad");
-    Ok(())
+    put_wrong(wrong, wanted, said.as_str())
+}
+
+// What is wrong of the fronts of the whole table, of it, and of it with one byte more.
+fn put_fronts(alloc: Global, wrong: &mut String, longer: &[u8]) -> Result<(), AllocError> {
+    for size in 0..longer.len() {
+        let is_whole = longer.len() - size == 1;
+        let wanted = if is_whole { whole_row().1 } else { "bad" };
+        put_front(alloc, wrong, &longer[..size], wanted)?;
+    }
+    put_front(alloc, wrong, longer, "bad")
+}
+
+fn wrong_fronts(alloc: Global) -> Result<String, AllocError> {
+    let mut longer = bytes(alloc, part(whole_row().0, 3));
+    longer.push(0)?;
+    let mut wrong = String::new(alloc);
+    put_fronts(alloc, &mut wrong, longer.as_slice())?;
+    Ok(wrong)
 }
 
 #[test]
-fn a_code_without_a_table_declares_none(rt: HostRuntime) -> Result<(), Fail> {
-    let first = first_frame(rt.alloc(), "I")?;
-    let code = code(rt.alloc(), 1, 0, None)?;
-    let answer = answer(rt.alloc(), &code, &first)?;
-    assert_eq!(rt; answer.as_str(), "");
-    Ok(())
-}
-
-#[test]
-fn the_frame_of_a_goto_is_the_first(rt: HostRuntime) -> Result<(), Fail> {
-    let first = first_frame(rt.alloc(), "IJ.N")?;
-    let map = bytes(rt.alloc(), "00 01 03")?;
-    let mut code = code(rt.alloc(), 4, 0, Some(map))?;
-    code.bytes = bytes(rt.alloc(), "a7 00 03 b1")?;
-    let answer = answer(rt.alloc(), &code, &first)?;
-    assert_eq!(rt; answer.as_str(), "3 IJ.N|");
+fn a_table_is_read_to_its_end(rt: HostRuntime) -> Result<(), AllocError> {
+    assert_eq!(rt; wrong_fronts(rt.alloc())?.as_str(), "");
     Ok(())
 }
 
@@ -208,138 +475,33 @@ fn a_table_is_spelled(_rt: HostRuntime) {
     tables_are_spelled(&[0, 1, 3]);
 }
 
-// ---- places
-
-// A line for each instruction: its place, whether a `new` begins there, and the next place.
-fn places_text(alloc: Global, places: &Places<'_>) -> Result<String, Fail> {
-    let mut text = String::new(alloc);
-    for k in 0..places.len() {
-        let (place, _, next) = places.get(k).ok_or("no instruction")?;
-        let is_new = places.is_new(place);
-        text.push_str(&format!(in alloc; "{place} {is_new} {next}\n")?)?;
-    }
-    Ok(text)
-}
-
-// The places at which instructions begin.
-fn starts_text(alloc: Global, places: &Places<'_>) -> Result<String, Fail> {
-    let mut text = String::new(alloc);
-    for place in 0..20u32 {
-        if places.is_start(place) {
-            text.push_str(&format!(in alloc; " {place}")?)?;
-        }
-    }
-    Ok(text)
-}
-
-#[test]
-fn instructions_begin_where_decoding_comes(rt: HostRuntime) -> Result<(), Fail> {
-    let places = Places::new(rt.alloc(), &CODE)?;
-    let text = places_text(rt.alloc(), &places)?;
-    assert_eq!(rt;
-        text.as_str(),
-        "0 true 3\n3 false 4\n4 false 7\n7 false 8\n"
-    );
-    let starts = starts_text(rt.alloc(), &places)?;
-    assert_eq!(rt; starts.as_str(), " 0 3 4 7");
-    assert_eq!(rt; places.bad(), None);
-    assert!(rt; places.code() == CODE.as_slice());
-    Ok(())
-}
-
-fn bad_place(alloc: Global, code: &[u8]) -> Result<(usize, Option<u32>), Fail> {
-    let places = Places::new(alloc, code)?;
-    Ok((places.len(), places.bad()))
-}
+// Codes without a table or with the first frame at a goto, where instructions begin, the room of stacks, and copies.
+static CALLS: &str = "table I,1,0,- = 
+goto IJ.N,4,0,00 01 03 = 3 IJ.N|
+instructions bb 00 02 59 a7 00 03 b1 = 0 new 3;3 old 4;4 old 7;7 old 8;
+starts bb 00 02 59 a7 00 03 b1 =  0 3 4 7
+bad bb 00 02 59 a7 00 03 b1 = 4 none
+code bb 00 02 59 a7 00 03 b1 = same
+bad  = 0 none
+bad bb 00 = 0 0
+bad 59 ff 59 = 1 1
+nops 65535 = 65535 none
+nops 65536 = 0 0
+pushed 4 IJDFN = FJI
+count 4 IJDFN = 3
+second 4 IJDFN = 2
+top 4 IJDFN = F full
+turned UIU UJ = LA;ILA;|JLA;
+made 7 = same
+made 8 = other
+made this = other
+made_copy 7 = @7
+all_copied .IFDJNU = .IFDJNU
+stack_copied 9 IJ = JI
+";
 
 #[test]
-fn decoding_stops_at_a_bad_place(rt: HostRuntime) -> Result<(), Fail> {
-    assert_eq!(rt; bad_place(rt.alloc(), &[])?, (0, None));
-    assert_eq!(rt; bad_place(rt.alloc(), &[0xbb, 0])?, (0, Some(0)));
-    assert_eq!(rt; bad_place(rt.alloc(), &[0x59, 0xff, 0x59])?, (1, Some(1)));
-    Ok(())
-}
-
-#[test]
-fn a_code_that_is_too_long_has_no_instructions(rt: HostRuntime) -> Result<(), Fail> {
-    let longest = vec![in rt.alloc(); 0u8; 65_535]?;
-    assert_eq!(rt; bad_place(rt.alloc(), &longest)?, (65_535, None));
-    let longer = vec![in rt.alloc(); 0u8; 65_536]?;
-    assert_eq!(rt; bad_place(rt.alloc(), &longer)?, (0, Some(0)));
-    Ok(())
-}
-
-// ---- stacks and copies
-
-fn stack_text(alloc: Global, stack: &TypeStack) -> Result<String, Fail> {
-    let mut text = String::new(alloc);
-    put_stack(alloc, &mut text, stack)?;
-    Ok(text)
-}
-
-fn type_text(alloc: Global, t: &VType) -> Result<String, Fail> {
-    let mut text = String::new(alloc);
-    put_type(alloc, &mut text, t)?;
-    Ok(text)
-}
-
-// Pushes types as far as there is room.
-fn pushed(alloc: Global, room: u16, letters: &str) -> Result<TypeStack, Fail> {
-    let mut stack = TypeStack::new(alloc);
-    for letter in letters.chars() {
-        let _fits = stack.push(room, type_of(letter)?)?;
-    }
-    Ok(stack)
-}
-
-#[test]
-fn a_stack_takes_no_more_than_its_room(rt: HostRuntime) -> Result<(), Fail> {
-    let mut stack = pushed(rt.alloc(), 4, "IJDFN")?;
-    let text = stack_text(rt.alloc(), &stack)?;
-    assert_eq!(rt; text.as_str(), "FJI");
-    assert!(rt; 2 < stack.len());
-    assert_eq!(rt; size(item(&stack, 1)), 2);
-    let top = stack.pop().ok_or("no top")?;
-    let text = type_text(rt.alloc(), &top)?;
-    assert_eq!(rt; text.as_str(), "F");
-    assert!(rt; stack.push(3, VType::Top)?.eq(&false));
-    Ok(())
-}
-
-#[test]
-fn copies_turn_and_all_else_stays(rt: HostRuntime) -> Result<(), Fail> {
-    let mut frame = first_frame(rt.alloc(), "UIU")?;
-    let new = VType::Object(Items::from_slice(rt.alloc(), b"A")?);
-    turn_locals(rt.alloc(), &mut frame.locals, Unfinished::ThisObject, &new)?;
-    frame.stack = pushed(rt.alloc(), 3, "UJ")?;
-    frame
-        .stack
-        .turn_all(rt.alloc(), Unfinished::ThisObject, &new)?;
-    let copy = frame_copied(rt.alloc(), &frame)?;
-    let mut text = String::new(rt.alloc());
-    put_frame(rt.alloc(), &mut text, &copy)?;
-    assert_eq!(rt; text.as_str(), "LA;ILA;|JLA;");
-    Ok(())
-}
-
-#[test]
-fn a_made_object_is_known_by_its_place(rt: HostRuntime) -> Result<(), Fail> {
-    let made = VType::Uninitialized(7);
-    assert!(rt; is_copy_of(Unfinished::MadeAt(7), &made));
-    assert!(rt; !is_copy_of(Unfinished::MadeAt(8), &made));
-    assert!(rt; !is_copy_of(Unfinished::ThisObject, &made));
-    let again = type_text(rt.alloc(), &copied(rt.alloc(), &made)?)?;
-    assert_eq!(rt; again.as_str(), "@7");
-    Ok(())
-}
-
-#[test]
-fn types_and_stacks_are_copied(rt: HostRuntime) -> Result<(), Fail> {
-    let frame = first_frame(rt.alloc(), ".IFDJNU")?;
-    let types = all_copied(rt.alloc(), frame.locals.as_slice())?;
-    assert_eq!(rt; types.len(), 7);
-    let stack = pushed(rt.alloc(), 9, "IJ")?;
-    let text = stack_text(rt.alloc(), &stack_copied(rt.alloc(), &stack)?)?;
-    assert_eq!(rt; text.as_str(), "JI");
+fn places_stacks_and_copies_are_as_the_rules_say(rt: HostRuntime) -> Result<(), AllocError> {
+    assert_eq!(rt; wrong_rows(rt.alloc(), CALLS)?.as_str(), "");
     Ok(())
 }
