@@ -1,4 +1,5 @@
 // Classes whose methods have no code: what they must not override, and each law once.
+use crate::test_rows::wrong_rows;
 use crate::{
     Checked, Place, check_class, frames_stand, methods_are_refused, questions_are_in_order,
     some_classes_ask_nothing,
@@ -8,7 +9,6 @@ use class_tree::{ClassTree, MethodTree, Pool, PoolEntry};
 use loader_rules::Loader;
 use sqlite_items::Items;
 use std::alloc::{AllocError, Global};
-use std::process::Abort;
 
 fn text(alloc: Global, text: &[u8]) -> Result<PoolEntry, AllocError> {
     Ok(PoolEntry::Utf8(Items::from_slice(alloc, text)?))
@@ -71,72 +71,80 @@ fn upper(alloc: Global, name: &[u8], flags: u16, method: u16) -> Result<ClassRec
     })
 }
 
-// What is found: no question, and whether there is a fault at the very beginning. `None` for all else.
-fn has_first_fault(checked: &Checked) -> Option<bool> {
+// What is found: a fault at the very beginning or none, without a question.
+fn found_word(checked: &Checked) -> &'static str {
     if checked.asks.len() > 0 {
-        return None;
+        return "asks";
     }
     match checked.fault {
-        Some(Place { method: 0, pc: 0 }) => Some(true),
-        Some(_) => None,
-        None => Some(false),
+        Some(Place { method: 0, pc: 0 }) => "fault",
+        Some(_) => "elsewhere",
+        None => "sound",
     }
 }
 
-// Whether p/A breaks what is final, where its m has these flags, and m of its two superclasses the others.
-fn breaks(
+fn flags_of(word: &str) -> u16 {
+    u16::from_str_radix(word, 16).unwrap_or(0)
+}
+
+// A class by its name, its flags and those of its method.
+fn upper_of(alloc: Global, words: &str) -> Result<ClassRecord, AllocError> {
+    let (name, both) = words.split_once(' ').unwrap_or((words, ""));
+    let (flags, method) = both.split_once(' ').unwrap_or((both, ""));
+    upper(alloc, name.as_bytes(), flags_of(flags), flags_of(method))
+}
+
+fn supers_of(alloc: Global, words: &str) -> Result<Vec<ClassRecord>, AllocError> {
+    let mut all = Vec::new(alloc);
+    for class in words.split(';') {
+        all.push(upper_of(alloc, class)?)?;
+    }
+    Ok(all)
+}
+
+fn say_checked(
     alloc: Global,
-    flags: u16,
-    first: (&[u8], u16),
-    second: (&[u8], u16),
-) -> Result<Option<bool>, AllocError> {
-    let tree = lower(alloc, flags)?;
-    let supers = [
-        upper(alloc, first.0, 0x0021, first.1)?,
-        upper(alloc, second.0, 0x0021, second.1)?,
-    ];
-    let checked = check_class(alloc, &tree, Loader::App, &supers)?;
-    Ok(has_first_fault(&checked))
+    said: &mut String,
+    tree: &ClassTree,
+    supers: &[ClassRecord],
+) -> Result<(), AllocError> {
+    let checked = check_class(alloc, tree, Loader::App, supers)?;
+    said.push_str(found_word(&checked))
+}
+
+/// Whether p/A breaks what is final: the flags of its m, and its superclasses.
+pub(crate) fn say_breaks(alloc: Global, said: &mut String, words: &str) -> Result<(), AllocError> {
+    let (flags, supers) = words.split_once(';').unwrap_or((words, ""));
+    let tree = lower(alloc, flags_of(flags))?;
+    let supers = supers_of(alloc, supers)?;
+    say_checked(alloc, said, &tree, supers.as_slice())
 }
 
 #[test]
 fn a_superclass_is_not_final(rt: HostRuntime) -> Result<(), AllocError> {
-    let alloc = rt.alloc();
-    let tree = lower(alloc, 0x0401)?;
-    let plain = [upper(alloc, b"p/B", 0x0021, 0x0002)?];
-    let closed = [upper(alloc, b"p/B", 0x0031, 0x0002)?];
-    let with_plain = check_class(alloc, &tree, Loader::App, &plain)?;
-    let with_closed = check_class(alloc, &tree, Loader::App, &closed)?;
-    assert!(rt; has_first_fault(&with_plain) == Some(false));
-    assert!(rt; has_first_fault(&with_closed) == Some(true));
+    let rows = "0401;p/B 0021 0002 = sound
+0401;p/B 0031 0002 = fault";
+    assert_eq!(rt; wrong_rows(rt.alloc(), "breaks", rows)?.as_str(), "");
     Ok(())
 }
 
 #[test]
 fn a_final_method_is_not_overridden(rt: HostRuntime) -> Result<(), AllocError> {
-    let alloc = rt.alloc();
-    let public = breaks(alloc, 0x0401, (b"q/B", 0x0011), (b"q/C", 0x0001))?;
-    let above = breaks(alloc, 0x0401, (b"q/B", 0x0001), (b"q/C", 0x0014))?;
-    let private = breaks(alloc, 0x0401, (b"p/B", 0x0012), (b"p/C", 0x0002))?;
-    let own_private = breaks(alloc, 0x0402, (b"p/B", 0x0011), (b"p/C", 0x0001))?;
-    assert!(rt; public == Some(true));
-    assert!(rt; above == Some(true));
-    assert!(rt; private == Some(false));
-    assert!(rt; own_private == Some(false));
+    let rows = "0401;q/B 0021 0011;q/C 0021 0001 = fault
+0401;q/B 0021 0001;q/C 0021 0014 = fault
+0401;p/B 0021 0012;p/C 0021 0002 = sound
+0402;p/B 0021 0011;p/C 0021 0001 = sound";
+    assert_eq!(rt; wrong_rows(rt.alloc(), "breaks", rows)?.as_str(), "");
     Ok(())
 }
 
 #[test]
 fn a_method_of_a_package_is_overridden_in_it(rt: HostRuntime) -> Result<(), AllocError> {
-    let alloc = rt.alloc();
-    let same = breaks(alloc, 0x0401, (b"p/B", 0x0010), (b"p/C", 0x0000))?;
-    let other = breaks(alloc, 0x0401, (b"q/B", 0x0010), (b"q/C", 0x0000))?;
-    let through = breaks(alloc, 0x0401, (b"q/B", 0x0004), (b"q/C", 0x0010))?;
-    let past = breaks(alloc, 0x0401, (b"q/B", 0x0002), (b"q/C", 0x0010))?;
-    assert!(rt; same == Some(true));
-    assert!(rt; other == Some(false));
-    assert!(rt; through == Some(true));
-    assert!(rt; past == Some(false));
+    let rows = "0401;p/B 0021 0010;p/C 0021 0000 = fault
+0401;q/B 0021 0010;q/C 0021 0000 = sound
+0401;q/B 0021 0004;q/C 0021 0010 = fault
+0401;q/B 0021 0002;q/C 0021 0010 = sound";
+    assert_eq!(rt; wrong_rows(rt.alloc(), "breaks", rows)?.as_str(), "");
     Ok(())
 }
 

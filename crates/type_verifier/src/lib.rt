@@ -38,6 +38,8 @@ mod silent_rows_tests;
 mod stack_forms;
 #[cfg(test)]
 mod stack_forms_tests;
+#[cfg(test)]
+mod test_rows;
 
 pub use cause::Cause;
 pub use checking::{Checked, Place};

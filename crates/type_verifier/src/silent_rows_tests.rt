@@ -1,12 +1,13 @@
 // What no contract says: that rows are typed where memory suffices.
 use crate::arrays::{array_made, array_over, arrays_made, primitive_array_made};
+use crate::assigning_tests::{put, word_of};
 use crate::cause::Stop;
 use crate::objects::{cast, constant_put, new_made, tested};
 use crate::silent_rows::{branch_row, int_put, int_taken, local_row, silent_row};
+use crate::test_rows::wrong_rows;
 use class_tree::{Pool, PoolEntry};
 use sqlite_items::Items;
 use std::alloc::{AllocError, Global};
-use std::test::Fail;
 use verify_types::{Frame, TypeStack, VType};
 
 fn empty_frame(alloc: Global) -> Result<Frame, AllocError> {
@@ -75,23 +76,43 @@ fn objects_used(alloc: Global, pool: &Pool, frame: &mut Frame) -> Result<(), Sto
     silent_row(alloc, 4, 0xc2, frame)
 }
 
-#[test]
-fn arrays_are_typed(rt: HostRuntime) -> Result<(), Fail> {
-    let mut frame = empty_frame(rt.alloc())?;
-    assert!(rt; arrays_read(rt.alloc(), &mut frame).is_ok());
-    assert_eq!(rt; frame.stack.len(), 1);
-    assert!(rt; arrays_stored(rt.alloc(), &mut frame).is_ok());
-    assert_eq!(rt; frame.stack.len(), 1);
-    assert!(rt; length_decides(rt.alloc(), &mut frame).is_ok());
-    assert_eq!(rt; frame.stack.len(), 1);
+fn step(alloc: Global, word: &str, pool: &Pool, frame: &mut Frame) -> Result<(), Stop> {
+    match word {
+        "arrays_read" => arrays_read(alloc, frame),
+        "arrays_stored" => arrays_stored(alloc, frame),
+        "length_decides" => length_decides(alloc, frame),
+        _ => objects_used(alloc, pool, frame),
+    }
+}
+
+// The count of a stack by its word.
+fn count_word(stack: &TypeStack) -> &'static str {
+    match stack.len() {
+        0 => " none ",
+        1 => " one ",
+        _ => " more ",
+    }
+}
+
+fn say_each(alloc: Global, said: &mut String, pool: &Pool, frame: &mut Frame, words: &str) {
+    for word in words.split(' ') {
+        put(said, word_of(step(alloc, word, pool, frame)));
+        put(said, count_word(&frame.stack));
+    }
+}
+
+/// What each step answers, which are done one after the other in a frame, and how many types are on the stack then.
+pub(crate) fn say_steps(alloc: Global, said: &mut String, words: &str) -> Result<(), AllocError> {
+    let pool = pool(alloc)?;
+    let mut frame = empty_frame(alloc)?;
+    say_each(alloc, said, &pool, &mut frame, words);
     Ok(())
 }
 
 #[test]
-fn objects_are_typed(rt: HostRuntime) -> Result<(), Fail> {
-    let pool = pool(rt.alloc())?;
-    let mut frame = empty_frame(rt.alloc())?;
-    assert!(rt; objects_used(rt.alloc(), &pool, &mut frame).is_ok());
-    assert_eq!(rt; frame.stack.len(), 1);
+fn arrays_and_objects_are_typed(rt: HostRuntime) -> Result<(), AllocError> {
+    let rows = "arrays_read arrays_stored length_decides = fine one fine one fine one 
+objects_used = fine one ";
+    assert_eq!(rt; wrong_rows(rt.alloc(), "steps", rows)?.as_str(), "");
     Ok(())
 }
