@@ -14,8 +14,3 @@ mod text;
 pub use fault::AsmFault;
 pub use laws::{classes_have_paths, labels_stand, lines_decode, pools_are_built, sizes_stand};
 pub use text::assemble;
-
-#[cfg(test)]
-mod test_table;
-#[cfg(test)]
-mod tests;
