@@ -20,8 +20,3 @@ pub use statement::{
     MemberName, MethodLine, Operation, Statement, SwitchCase,
 };
 pub use text::statements;
-
-#[cfg(test)]
-mod test_table;
-#[cfg(test)]
-mod tests;

@@ -19,10 +19,3 @@ mod values;
 pub use fault::HomeFault;
 pub use home::write_home;
 pub use text::boot_text;
-
-#[cfg(test)]
-mod home_tests;
-#[cfg(test)]
-mod test_table;
-#[cfg(test)]
-mod tests;

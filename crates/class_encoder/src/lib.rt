@@ -12,6 +12,3 @@ mod pool;
 pub use encoding::{encode, encoded_trees_spell};
 pub use fault::Memory;
 pub use pool::put_entry;
-
-#[cfg(test)]
-mod tests;

@@ -10,8 +10,3 @@ mod reading;
 mod table;
 
 pub use table::LoadedClasses;
-
-#[cfg(test)]
-mod test_classes;
-#[cfg(test)]
-mod tests;

@@ -6,6 +6,3 @@ mod laws;
 
 pub use builder::PoolBuilder;
 pub use laws::{pools_are_built, pools_grow};
-
-#[cfg(test)]
-mod tests;

@@ -18,8 +18,3 @@ pub use reading::tables_are_spelled;
 pub use stack::{TypeStack, item, stack_copied, units_within};
 pub use types::{Frame, Unfinished, VType};
 pub use written::{Change, WrittenFrame, WrittenType};
-
-#[cfg(test)]
-mod test_tables;
-#[cfg(test)]
-mod tests;

@@ -1,6 +1,8 @@
 // What no contract says: that lines are read where memory suffices. And lines on both sides of each rule.
-use crate::test_table::LINES;
-use crate::{Constant, FieldLine, Operation, Statement, lines_are_cut, statements, tokens_are_cut};
+use crate::text_table::LINES;
+use asm_text::{
+    Constant, FieldLine, Operation, Statement, lines_are_cut, statements, tokens_are_cut,
+};
 use std::alloc::{AllocError, Global};
 use std::test::Fail;
 

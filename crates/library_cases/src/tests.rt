@@ -1,7 +1,7 @@
 // What no contract says: that the text has the classes and the members that programs may ask for, by a table that was
 // written from their specification, and that a constant of a class is the one that Java has.
-use crate::boot_text;
 use crate::test_table::MEMBERS;
+use boot_library::boot_text;
 use class_asm::{AsmFault, assemble};
 use class_tree::{ClassTree, FieldTree, MethodTree, Pool, PoolEntry};
 use std::alloc::{AllocError, Global};

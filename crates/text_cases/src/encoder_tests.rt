@@ -1,6 +1,6 @@
 // What no contract says: that a tree is written where memory suffices. The expected class files were made by hand after
 // JVMS 4.1 to 4.7. A word is a byte in hexadecimal, or a text behind a quote.
-use crate::{encode, encoded_trees_spell};
+use class_encoder::{encode, encoded_trees_spell};
 use class_tree::{ClassTree, CodeTree, FieldTree, Handler, MethodTree, Pool, read_pool};
 use jsa_base::Cursor;
 use sqlite_items::Items;

@@ -1,6 +1,6 @@
 // A home in a store in memory: that it is made where memory suffices, and what is left where a call fails. A row is a call,
 // and behind ` = ` what it answers; rows behind an empty line are calls of another store. In them `~` ends a line.
-use crate::{HomeFault, boot_text, write_home};
+use boot_library::{HomeFault, boot_text, write_home};
 use jsa_files::{Files, FilesFault, MemoryFiles};
 use std::alloc::{AllocError, Global};
 

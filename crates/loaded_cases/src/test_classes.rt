@@ -6,13 +6,13 @@ ghost use Rattle.class_tree.specs.WellFormed.{class_name};
 ghost use Rattle.class_record.specs.declared.fault.TheConstants.{MAX_LOADED};
 ghost use Rattle.class_record.specs.Facts.{names_of};
 ghost use Rattle.class_record.specs.Loading.{is_among};
-ghost use Rattle.class_record.specs.Trees.{HasShortLists, bases_of, own_name};
+ghost use Rattle.class_record.specs.Trees as trees;
+ghost use Rattle.class_record.specs.Trees.{HasShortLists, bases_of};
 ghost use Rattle.loaded_classes.specs.Slots.{IsShortCode};
 
-use crate::LoadedClasses;
-use crate::reading::own_name;
 use class_record::{Classes, MAX_LOADED};
 use class_tree::{ClassTree, CodeTree, FieldTree, Handler, MethodTree, Pool, PoolEntry};
+use loaded_classes::LoadedClasses;
 use loader_rules::Loader;
 use sqlite_items::Items;
 use std::alloc::{AllocError, Global};
@@ -93,8 +93,18 @@ fn has_short_lists(tree: &ClassTree) -> bool
         && are_short(tree.methods.as_slice())
 }
 
+// The name that the class has inside.
+fn own_name(tree: &ClassTree) -> &[u8]
+    ensures { result.now ≡ trees.own_name tree.now }
+{
+    match tree.pool.class_name(tree.this) {
+        Some(name) => name,
+        None => &[],
+    }
+}
+
 fn may_push(classes: &LoadedClasses, tree: &ClassTree) -> bool
-    ensures fresh { IsTrue result → is_among (own_name tree.now) (names_of classes.now.classes) ≡ false }
+    ensures fresh { IsTrue result → is_among (trees.own_name tree.now) (names_of classes.now.classes) ≡ false }
     ensures bases { IsTrue result → AllByRecursion (λ base. is_among base.name (names_of classes.now.classes) ≡ true) (bases_of tree.now) }
     ensures short { IsTrue result → HasShortLists tree.now }
     ensures few { IsTrue result → length classes.now.classes < MAX_LOADED }

@@ -1,13 +1,13 @@
 // What no contract says: that the definitions are the standard's, by tables that were made by hand; and each public function
 // once. A row is a call, and behind ` = ` what it answers.
 use crate::test_tables::{TABLES, WHOLE};
-use crate::{
-    Frame, Places, TypeStack, Unfinished, VType, VerifyFault, all_copied, copied, frame_copied,
-    frames_of, is_copy_of, item, size, stack_copied, tables_are_spelled, turn_locals,
-};
 use class_tree::{CodeTree, Pool, PoolEntry};
 use sqlite_items::Items;
 use std::alloc::{AllocError, Global};
+use verify_types::{
+    Frame, Places, TypeStack, Unfinished, VType, VerifyFault, all_copied, copied, frame_copied,
+    frames_of, is_copy_of, item, size, stack_copied, tables_are_spelled, turn_locals,
+};
 
 // new A, dup, goto 7, return
 static CODE: &str = "bb 00 02 59 a7 00 03 b1";

@@ -1,10 +1,10 @@
 // That calls succeed, and what they answer for classes on each side of a rule.
 ghost use Rattle.std.specs.Prelude.{◌≡◌, ◌<◌, length};
 
-use crate::LoadedClasses;
 use crate::test_classes::push_lines;
 use class_record::{ClassId, Classes, FieldFact, JavaFault, MethodFact, PoolFact};
 use class_tree::Handler;
+use loaded_classes::LoadedClasses;
 use loader_rules::Loader;
 use std::alloc::{AllocError, Global};
 use std::test::Fail;

@@ -1,6 +1,6 @@
-use crate::{PoolBuilder, pools_are_built, pools_grow};
 use asm_text::{Constant, LineFault, MemberKind, MemberName};
 use class_tree::PoolEntry;
+use pool_builder::{PoolBuilder, pools_are_built, pools_grow};
 use sqlite_items::Items;
 use std::alloc::{AllocError, Global};
 
