@@ -4,7 +4,7 @@ use Rattle.class_tree.specs.WellFormed.{class_name}
 use Rattle.class_record.specs.Files.{Name}
 use Rattle.class_record.specs.Facts.{names_of}
 use Rattle.class_record.specs.Loading.{is_among}
-use Rattle.loaded_classes.proofs.test_classes.are_loaded.Given as goal
+use Rattle.loaded_cases.proofs.test_classes.are_loaded.Given as goal
 
 abbrev pub invariant-loop-rest : goal.invariant-loop-rest
 invariant-loop-rest l =

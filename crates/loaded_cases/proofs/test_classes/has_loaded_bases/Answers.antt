@@ -10,7 +10,7 @@ use Rattle.class_record.specs.declared.bases.Base.{Base}
 use Rattle.class_record.specs.Trees.{base_of, bases_of, sup_name, interface_names}
 use Rattle.class_record.specs.Facts.{names_of}
 use Rattle.class_record.specs.Loading.{is_among}
-use Rattle.loaded_classes.proofs.test_classes.has_loaded_bases.Goals as goal
+use Rattle.loaded_cases.proofs.test_classes.has_loaded_bases.Goals as goal
 
 module _ (P : Name → Type 0) where
   abbrev Named : Base → Type 0
