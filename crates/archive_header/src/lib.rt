@@ -19,12 +19,3 @@ pub use header_reading::read_header;
 pub use manifest_making::manifest;
 pub use manifest_type::{Manifest, one_manifest, read_manifest, write_manifest};
 pub use refuse::Refuse;
-
-#[cfg(test)]
-mod header_tests;
-#[cfg(test)]
-mod making_tests;
-#[cfg(test)]
-mod manifest_tests;
-#[cfg(test)]
-mod test_bytes;
