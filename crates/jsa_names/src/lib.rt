@@ -15,8 +15,3 @@ pub use names::{is_class_name, is_member_name, is_method_name};
 pub use paths::path_of;
 pub use texts::{is_mutf8, texts_are_spelled, utf16};
 pub use types::FieldType;
-
-#[cfg(test)]
-mod test_table;
-#[cfg(test)]
-mod tests;

@@ -19,8 +19,3 @@ pub use laws::{answers_are_exact, behind_is_unread, cut_goes_on};
 pub use reading::decode;
 pub use support::is_unsupported;
 pub use writing::write;
-
-#[cfg(test)]
-mod test_table;
-#[cfg(test)]
-mod tests;

@@ -4,8 +4,6 @@
 mod finding;
 mod loader;
 mod packages;
-#[cfg(test)]
-mod tests;
 
 pub use finding::find;
 pub use loader::{Found, Loader, Paths};

@@ -1,43 +1,14 @@
 // Names and descriptors on both sides of each rule.
-use crate::test_table::TABLE;
-use crate::{
+use crate::name_table::TABLE;
+use crate::rows::{compare, first_word, parts, say_number, say_text, tell, word_of};
+use crate::test_bytes::{are_words, bytes_of};
+use jsa_names::{
     FieldType, MethodType, field_type, field_types_are_spelled, is_class_name, is_member_name,
     is_method_name, is_mutf8, method_type, method_types_are_spelled, path_of, texts_are_spelled,
     utf16,
 };
 use std::alloc::{AllocError, Global};
 use std::test::Fail;
-
-fn push_bytes(digits: &str, bytes: &mut Vec<u8>) -> Result<(), AllocError> {
-    for byte in digits.split('.') {
-        bytes.push(u8::from_str_radix(byte, 16).unwrap_or(0))?;
-    }
-    Ok(())
-}
-
-fn push_repeated(word: &str, bytes: &mut Vec<u8>) -> Result<(), AllocError> {
-    let (count, text) = word.split_once('*').unwrap_or(("1", word));
-    for _ in 0..count.parse::<u16>().unwrap_or(0) {
-        bytes.extend_from_slice(text.as_bytes())?;
-    }
-    Ok(())
-}
-
-// The bytes of a word: after a backslash the digits of bytes between dots, after `N*` a text N times, else its own.
-fn push_word(word: &str, bytes: &mut Vec<u8>) -> Result<(), AllocError> {
-    match word.strip_prefix("\\") {
-        Some(digits) => push_bytes(digits, bytes),
-        None => push_repeated(word, bytes),
-    }
-}
-
-fn bytes_of(alloc: Global, words: &str) -> Result<Vec<u8>, AllocError> {
-    let mut bytes = Vec::new(alloc);
-    for word in words.split(' ') {
-        push_word(word, &mut bytes)?;
-    }
-    Ok(bytes)
-}
 
 // The letter of a type that is no class and no array.
 fn letter(read: &FieldType<'_>) -> &'static str {
@@ -144,7 +115,7 @@ fn name_word(test: &str, bytes: &[u8]) -> &'static str {
         "named" => is_method_name(bytes),
         _ => return "no such test",
     };
-    if passes { "yes" } else { "no" }
+    word_of(passes)
 }
 
 fn test_word(alloc: Global, test: &str, bytes: &[u8]) -> Result<&'static str, AllocError> {
@@ -156,21 +127,12 @@ fn test_word(alloc: Global, test: &str, bytes: &[u8]) -> Result<&'static str, Al
     }
 }
 
-// The first word, and what stands behind its space.
-fn first_word(text: &str) -> (&str, &str) {
-    text.split_once(' ').unwrap_or((text, ""))
-}
-
 fn found_word(alloc: Global, test: &str, words: &str) -> Result<&'static str, AllocError> {
+    if !are_words(words) {
+        return Ok("no bytes");
+    }
     let bytes = bytes_of(alloc, words)?;
     test_word(alloc, test, bytes.as_slice())
-}
-
-fn tell(row: &str, said: &str, wrong: &mut String) -> Result<(), AllocError> {
-    wrong.push_str(row)?;
-    wrong.push_str(" but ")?;
-    wrong.push_str(said)?;
-    wrong.push_str("\n")
 }
 
 fn try_line(alloc: Global, line: &str, wrong: &mut String) -> Result<(), AllocError> {
@@ -195,10 +157,6 @@ fn wrong_lines(alloc: Global, lines: &str) -> Result<String, AllocError> {
 fn each_line_of_the_table_holds(rt: HostRuntime) -> Result<(), Fail> {
     assert_eq!(rt; wrong_lines(rt.alloc(), TABLE)?.as_str(), "");
     Ok(())
-}
-
-fn say_text(bytes: &[u8], said: &mut String) -> Result<(), AllocError> {
-    said.push_str(str::from_utf8(bytes).unwrap_or("no text"))
 }
 
 fn say_array(
@@ -230,9 +188,17 @@ fn say_type(
     }
 }
 
-fn say_slots(alloc: Global, read: &MethodType<'_>, said: &mut String) -> Result<(), AllocError> {
-    let text = format!(in alloc; "{}", read.slots())?;
-    said.push_str(text.as_str())
+// The parameter at a place.
+fn say_parameter(
+    alloc: Global,
+    read: &MethodType<'_>,
+    place: &str,
+    said: &mut String,
+) -> Result<(), AllocError> {
+    match place.parse::<u32>() {
+        Ok(place) => say_type(alloc, &read.param(place), said),
+        Err(_) => said.push_str("no place"),
+    }
 }
 
 fn say_method(
@@ -245,9 +211,9 @@ fn say_method(
         return said.push_str("no method type");
     };
     match part {
-        "slots" => say_slots(alloc, &read, said),
+        "slots" => say_number(alloc, u64::from(read.slots()), said),
         "result" => say_type(alloc, &read.result(), said),
-        place => say_type(alloc, &read.param(place.parse::<u32>().unwrap_or(0)), said),
+        place => say_parameter(alloc, &read, place, said),
     }
 }
 
@@ -293,18 +259,18 @@ fn say(
 fn say_call(alloc: Global, call: &str, said: &mut String) -> Result<(), AllocError> {
     let (verb, words) = first_word(call);
     let (part, words) = first_word(words);
+    if !are_words(words) {
+        return said.push_str("no bytes");
+    }
     let bytes = bytes_of(alloc, words)?;
     say(alloc, verb, part, bytes.as_slice(), said)
 }
 
 fn try_row(alloc: Global, row: &str, wrong: &mut String) -> Result<(), AllocError> {
-    let (call, wanted) = row.split_once(" = ").unwrap_or((row, "no answer"));
+    let (call, _) = parts(row);
     let mut said = String::new(alloc);
     say_call(alloc, call, &mut said)?;
-    if said.as_str() == wanted {
-        return Ok(());
-    }
-    tell(row, said.as_str(), wrong)
+    compare(row, said.as_str(), wrong)
 }
 
 fn wrong_rows(alloc: Global, rows: &str) -> Result<String, AllocError> {

@@ -1,0 +1,211 @@
+// The table of opcodes as other crates expand it, and what stands at a place of small codes.
+use crate::listing_tests::{answer, table_rows};
+use crate::rows::{compare, first_word, parts, say_number};
+use crate::test_bytes::{byte_of, is_byte};
+use jsa_ops::{Instr, OpFault, form_of, write};
+use std::alloc::{AllocError, Global};
+use std::test::Fail;
+
+// A row's byte and form, as they are said of a byte.
+fn has_row(alloc: Global, row: &str, byte: u8) -> Result<bool, AllocError> {
+    let (code, words) = first_word(row);
+    let (_, form) = words.rsplit_once(' ').unwrap_or((words, ""));
+    let wanted = format!(in alloc; "{byte} {:?}", form_of(byte))?;
+    let said = format!(in alloc; "{code} Some({form})")?;
+    Ok(said.as_str() == wanted.as_str())
+}
+
+// How many rows of the table, in their order, are those of the bytes from 0 on.
+fn held_rows(alloc: Global, rows: &[&'static str]) -> Result<u64, AllocError> {
+    let mut count = 0;
+    for byte in 0..=255u8 {
+        if let Some(row) = rows.get(usize::from(byte)) {
+            if has_row(alloc, row, byte)? {
+                count += 1;
+            }
+        }
+    }
+    Ok(count)
+}
+
+// The bytes from 202 on that have no form.
+fn formless() -> u64 {
+    let mut count = 0;
+    for byte in 202..=255u8 {
+        if form_of(byte).is_none() {
+            count += 1;
+        }
+    }
+    count
+}
+
+// How many rows there are, how many of them are right, and how many bytes behind them have no form.
+fn say_table(alloc: Global, said: &mut String) -> Result<(), AllocError> {
+    let rows = table_rows(alloc)?;
+    let held = held_rows(alloc, rows.as_slice())?;
+    let text = format!(in alloc; "{} {held} {}", rows.len(), formless())?;
+    said.push_str(text.as_str())
+}
+
+// A write of bipush -128.
+fn say_bipush(alloc: Global, said: &mut String) -> Result<(), AllocError> {
+    let mut out = Vec::new(alloc);
+    let answer = write(&Instr::Byte(0x10, -128), 0, &mut out);
+    let text = format!(in alloc; "{answer:?} {:?}", out.as_slice())?;
+    said.push_str(text.as_str())
+}
+
+fn is_bad(code: &[u8], place: usize, byte: u8) -> bool {
+    match answer(code, place) {
+        Some(Err(OpFault::BadOpcode(found))) => found == byte,
+        _ => false,
+    }
+}
+
+// The bytes above the opcodes that name no instruction, neither at the start nor behind one.
+fn nameless() -> u64 {
+    let mut count = 0;
+    for byte in 0xca..=0xffu8 {
+        if is_bad(&[byte, 0, 0, 0, 0], 0, byte) && is_bad(&[0, byte], 1, byte) {
+            count += 1;
+        }
+    }
+    count
+}
+
+// The byte where it makes an instruction behind wide. Each other must be refused by its number.
+fn say_widened(alloc: Global, byte: u8, said: &mut String) -> Result<(), AllocError> {
+    if is_bad(&[0xc4, byte, 0, 0, 0, 0], 0, byte) {
+        return Ok(());
+    }
+    said.push_str(match answer(&[0xc4, byte, 0, 0, 0, 0], 0) {
+        Some(Ok(_)) => "+",
+        _ => "!",
+    })?;
+    say_number(alloc, u64::from(byte), said)
+}
+
+fn say_all_widened(alloc: Global, said: &mut String) -> Result<(), AllocError> {
+    for byte in 0..=255u8 {
+        say_widened(alloc, byte, said)?;
+    }
+    Ok(())
+}
+
+fn are_bytes(words: &str) -> bool {
+    words.split(' ').all(is_byte)
+}
+
+fn bytes_of(alloc: Global, words: &str) -> Result<Vec<u8>, AllocError> {
+    let mut bytes = Vec::new(alloc);
+    for word in words.split(' ') {
+        bytes.push(byte_of(word))?;
+    }
+    Ok(bytes)
+}
+
+fn say_instr(
+    alloc: Global,
+    instr: &Instr<'_>,
+    next: u32,
+    said: &mut String,
+) -> Result<(), AllocError> {
+    let text = format!(in alloc; "{instr:?} to {next}")?;
+    said.push_str(text.as_str())
+}
+
+fn say_fault(alloc: Global, fault: OpFault, said: &mut String) -> Result<(), AllocError> {
+    let text = format!(in alloc; "{fault:?}")?;
+    said.push_str(text.as_str())
+}
+
+fn say_answer(
+    alloc: Global,
+    code: &[u8],
+    place: usize,
+    said: &mut String,
+) -> Result<(), AllocError> {
+    match answer(code, place) {
+        Some(Ok((instr, next))) => say_instr(alloc, &instr, next, said),
+        Some(Err(fault)) => say_fault(alloc, fault, said),
+        None => said.push_str("no place"),
+    }
+}
+
+// What stands at the place of a code, whose bytes are written as hexadecimal digits.
+fn say_at(alloc: Global, words: &str, said: &mut String) -> Result<(), AllocError> {
+    let (place, words) = first_word(words);
+    if !are_bytes(words) {
+        return said.push_str("no bytes");
+    }
+    let code = bytes_of(alloc, words)?;
+    match place.parse::<usize>() {
+        Ok(place) => say_answer(alloc, code.as_slice(), place, said),
+        Err(_) => said.push_str("no place"),
+    }
+}
+
+fn say(alloc: Global, call: &str, said: &mut String) -> Result<(), AllocError> {
+    let (verb, words) = first_word(call);
+    match verb {
+        "at" => say_at(alloc, words, said),
+        "table" => say_table(alloc, said),
+        "write" => say_bipush(alloc, said),
+        "nameless" => say_number(alloc, nameless(), said),
+        "widened" => say_all_widened(alloc, said),
+        _ => said.push_str("no call"),
+    }
+}
+
+fn try_row(alloc: Global, row: &str, wrong: &mut String) -> Result<(), AllocError> {
+    let (call, _) = parts(row);
+    let mut said = String::new(alloc);
+    say(alloc, call, &mut said)?;
+    compare(row, said.as_str(), wrong)
+}
+
+fn wrong_rows(alloc: Global, rows: &str) -> Result<String, AllocError> {
+    let mut wrong = String::new(alloc);
+    for row in rows.lines() {
+        try_row(alloc, row, &mut wrong)?;
+    }
+    Ok(wrong)
+}
+
+// Each opcode has a row; bipush both ways; other bytes name no instruction, of which those behind wide that do are the loads and
+// stores with a written local, ret and iinc; and switches at place 3, which have no padding.
+static ROWS: &str = "table all = 202 202 54
+at 0 10 80 = Byte(16, -128) to 2
+at 0 ff = BadOpcode(255)
+at 0 11 01 = Cut
+write bipush = Ok(()) [16, 128]
+nameless bytes = 54
+widened bytes = +21+22+23+24+25+54+55+56+57+58+132+169
+at 0 c4 = Cut
+at 0 c4 00 = BadOpcode(0)
+at 3 00 00 00 aa 00 00 00 00 00 00 00 01 00 00 00 00 = BadOperand
+at 3 00 00 00 aa 00 00 00 00 00 00 00 00 ff ff ff ff = BadOperand
+at 3 00 00 00 aa 00 00 00 00 7f ff ff ff 80 00 00 00 = BadOperand
+at 3 00 00 00 aa 00 00 00 00 00 00 00 01 00 00 00 00 00 00 00 00 = BadOperand
+at 3 00 00 00 aa 00 00 00 00 00 00 00 01 00 00 00 = Cut
+at 3 00 00 00 aa 00 00 00 00 00 00 00 00 7f ff ff ff 00 00 00 00 = Cut
+at 3 00 00 00 aa 00 00 00 00 80 00 00 00 7f ff ff ff 00 00 00 00 = Cut
+at 3 00 00 00 aa 00 00 00 00 00 00 00 05 00 00 00 05 00 00 00 00 = TableSwitch(170, 0, 5, 5, [0, 0, 0, 0]) to 20
+at 3 00 00 00 ab 00 00 00 00 00 00 00 00 = LookupSwitch(171, 0, []) to 12
+at 3 00 00 00 ab 00 00 00 00 80 00 00 00 = BadOperand
+at 3 00 00 00 ab 00 00 00 00 ff ff ff ff = BadOperand
+at 3 00 00 00 ab 00 00 00 00 ff ff ff = Cut
+at 3 00 00 00 ab 00 00 00 00 7f ff ff ff 00 00 00 00 00 00 00 00 = Cut
+at 3 00 00 00 ab 00 00 00 00 00 00 00 02 00 00 00 07 00 00 00 00 00 00 00 07 00 00 00 00 = BadOperand
+at 3 00 00 00 ab 00 00 00 00 00 00 00 02 00 00 00 00 00 00 00 00 ff ff ff ff 00 00 00 00 = BadOperand
+at 3 00 00 00 ab 00 00 00 00 00 00 00 03 00 00 00 00 00 00 00 00 00 00 00 09 00 00 00 00 00 00 00 08 00 00 00 00 = BadOperand
+at 3 00 00 00 ab 00 00 00 00 00 00 00 02 00 00 00 07 00 00 00 00 00 00 00 07 00 00 00 = Cut
+at 3 00 00 00 ab 00 00 00 00 00 00 00 02 ff ff ff ff 00 00 00 00 00 00 00 00 00 00 00 00 = LookupSwitch(171, 0, [255, 255, 255, 255, 0, 0, 0, 0, 0, 0, 0, 0, 0, 0, 0, 0]) to 28";
+
+#[test]
+fn the_table_has_a_row_for_each_opcode_and_each_small_code_its_answer(
+    rt: HostRuntime,
+) -> Result<(), Fail> {
+    assert_eq!(rt; wrong_rows(rt.alloc(), ROWS)?.as_str(), "");
+    Ok(())
+}

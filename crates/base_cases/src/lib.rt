@@ -1,0 +1,20 @@
+//! What no clause of `jsa_names`, `jsa_ops` and `loader_rules` says: that calls succeed where memory suffices, and that their
+//! definitions are the standard's, by rows on both sides of each rule and another program's reading of a code.
+#![tactic(auto)]
+
+#[cfg(test)]
+mod code_tests;
+#[cfg(test)]
+mod listing_tests;
+#[cfg(test)]
+mod loader_tests;
+#[cfg(test)]
+mod name_table;
+#[cfg(test)]
+mod name_tests;
+#[cfg(test)]
+mod rows;
+#[cfg(test)]
+mod test_bytes;
+#[cfg(test)]
+mod test_code;

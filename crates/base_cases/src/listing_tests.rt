@@ -1,0 +1,342 @@
+// A code is read as another program reads it, cut within each of its instructions, and written again.
+use crate::rows::say_number;
+use crate::test_bytes::byte_of;
+use crate::test_code::{CODE, LISTING};
+use jsa_ops::{
+    Instr, OpFault, answers_are_exact, behind_is_unread, cut_goes_on, decode, is_unsupported, write,
+};
+use std::alloc::{AllocError, Global};
+use std::test::Fail;
+
+// A line for each opcode: its byte, its mnemonic, its variant and its form.
+macro_rules! row_lines {
+    ([] $($last:literal $variant:ident $form:ident: $($code:literal $name:literal),*;)*) => {
+        concat!(
+            $($($code, " ", $name, " ", stringify!($variant), " ", stringify!($form), "\n",)*)*
+        )
+    };
+}
+
+fn table() -> [&'static str; 7] {
+    [
+        jsa_ops::opcodes!(constants row_lines),
+        jsa_ops::opcodes!(loads row_lines),
+        jsa_ops::opcodes!(stores row_lines),
+        jsa_ops::opcodes!(math row_lines),
+        jsa_ops::opcodes!(tests row_lines),
+        jsa_ops::opcodes!(jumps row_lines),
+        jsa_ops::opcodes!(objects row_lines),
+    ]
+}
+
+fn push_lines(part: &'static str, rows: &mut Vec<&'static str>) -> Result<(), AllocError> {
+    for line in part.lines() {
+        rows.push(line)?;
+    }
+    Ok(())
+}
+
+// The lines of the table, by opcode.
+pub fn table_rows(alloc: Global) -> Result<Vec<&'static str>, AllocError> {
+    let mut rows = Vec::new(alloc);
+    for part in table() {
+        push_lines(part, &mut rows)?;
+    }
+    Ok(rows)
+}
+
+// A word of an opcode's row.
+fn word(rows: &[&'static str], opcode: &str, at: usize) -> &'static str {
+    let Ok(opcode) = opcode.parse::<usize>() else {
+        return "no opcode";
+    };
+    match rows.get(opcode) {
+        Some(row) => row.split(' ').nth(at).unwrap_or("no word"),
+        None => "no row",
+    }
+}
+
+type Answer<'a> = Result<(Instr<'a>, u32), OpFault>;
+
+// What stands at a place of a code.
+pub fn answer<'a>(code: &'a [u8], place: usize) -> Option<Answer<'a>> {
+    if code.len() <= place || 65_535 < code.len() {
+        return None;
+    }
+    Some(decode(code, place as u32))
+}
+
+fn is_cut(code: &[u8], place: usize) -> bool {
+    matches!(answer(code, place), Some(Err(OpFault::Cut)))
+}
+
+fn is_read(code: &[u8], place: usize) -> bool {
+    matches!(answer(code, place), Some(Ok(_)))
+}
+
+// Whether what ends within the instruction is cut, and what ends behind it isn't.
+fn are_fronts_cut(code: &[u8], place: usize, next: usize) -> bool {
+    let mut front = code.get(..next).unwrap_or(&[]);
+    if !is_read(front, place) {
+        return false;
+    }
+    while let [more @ .., _] = front {
+        front = more;
+        if place < front.len() && !is_cut(front, place) {
+            return false;
+        }
+    }
+    true
+}
+
+// The distances or the pairs of a switch.
+fn list<'a>(instr: &Instr<'a>) -> &'a [u8] {
+    match *instr {
+        Instr::TableSwitch(_, _, _, _, distances) => distances,
+        Instr::LookupSwitch(_, _, pairs) => pairs,
+        _ => &[],
+    }
+}
+
+fn say_quad(alloc: Global, quad: &[u8], said: &mut String) -> Result<(), AllocError> {
+    let [a, b, c, d] = quad else {
+        return said.push_str(" no number");
+    };
+    let number = i32::from_be_bytes([*a, *b, *c, *d]);
+    let text = format!(in alloc; " {number}")?;
+    said.push_str(text.as_str())
+}
+
+// The signed numbers of four bytes each.
+fn say_quads(alloc: Global, bytes: &[u8], said: &mut String) -> Result<(), AllocError> {
+    for quad in bytes.chunks(4) {
+        say_quad(alloc, quad, said)?;
+    }
+    Ok(())
+}
+
+// The numbers of an instruction that is shown as `Variant(number, number, [bytes])`.
+fn numbers_in(shown: &str) -> &str {
+    let (_, inside) = shown.split_once('(').unwrap_or((shown, ""));
+    let (numbers, _) = inside.split_once(", [").unwrap_or((inside, ""));
+    numbers.strip_suffix(')').unwrap_or(numbers)
+}
+
+fn variant_in(shown: &str) -> &str {
+    let (variant, _) = shown.split_once('(').unwrap_or((shown, ""));
+    variant
+}
+
+fn first_number(numbers: &str) -> (&str, &str) {
+    numbers.split_once(", ").unwrap_or((numbers, ""))
+}
+
+// Numbers, each behind a blank.
+fn say_numbers(numbers: &str, said: &mut String) -> Result<(), AllocError> {
+    if numbers.is_empty() {
+        return Ok(());
+    }
+    for number in numbers.split(", ") {
+        said.push_str(" ")?;
+        said.push_str(number)?;
+    }
+    Ok(())
+}
+
+// An instruction behind wide has the name of the opcode there, with `_w` behind it.
+fn say_wide(
+    rows: &[&'static str],
+    numbers: &str,
+    said: &mut String,
+) -> Result<(), AllocError> {
+    let (code, operands) = first_number(numbers);
+    said.push_str(word(rows, code, 1))?;
+    said.push_str("_w")?;
+    say_numbers(operands, said)
+}
+
+fn say_plain(
+    rows: &[&'static str],
+    opcode: &str,
+    numbers: &str,
+    said: &mut String,
+) -> Result<(), AllocError> {
+    said.push_str(word(rows, opcode, 1))?;
+    say_numbers(numbers, said)
+}
+
+// The mnemonic, and the operands that are numbers.
+fn say_shown(rows: &[&'static str], shown: &str, said: &mut String) -> Result<(), AllocError> {
+    let (opcode, numbers) = first_number(numbers_in(shown));
+    match variant_in(shown) {
+        "Wide" => say_wide(rows, numbers, said),
+        "WideIinc" => {
+            said.push_str("iinc_w")?;
+            say_numbers(numbers, said)
+        }
+        _ => say_plain(rows, opcode, numbers, said),
+    }
+}
+
+// Whether the variant is the row's, or wide's where iinc stands behind it.
+fn has_variant(rows: &[&'static str], shown: &str) -> bool {
+    let (opcode, _) = first_number(numbers_in(shown));
+    match variant_in(shown) {
+        "WideIinc" => word(rows, opcode, 2) == "Wide",
+        variant => variant == word(rows, opcode, 2),
+    }
+}
+
+fn is_conversion(name: &str) -> bool {
+    name == "i2f" || name == "i2d" || name == "l2f" || name == "l2d"
+}
+
+// Whether the name begins with f or d and is no dup, or is one of these.
+fn is_float_name(name: &str) -> bool {
+    let begins = name.starts_with('f') || name.starts_with('d') && !name.starts_with("dup");
+    begins || is_conversion(name) || name == "invokedynamic"
+}
+
+// The name that a text begins with.
+fn name_in(text: &str) -> &str {
+    let (name, _) = text.split_once(' ').unwrap_or((text, ""));
+    name
+}
+
+// The mnemonic and the operands, and what is wrong with the variant or with what is supported.
+fn say_instr(
+    alloc: Global,
+    rows: &[&'static str],
+    instr: &Instr<'_>,
+    said: &mut String,
+) -> Result<(), AllocError> {
+    let shown = format!(in alloc; "{instr:?}")?;
+    let mut text = String::new(alloc);
+    say_shown(rows, shown.as_str(), &mut text)?;
+    said.push_str(text.as_str())?;
+    say_quads(alloc, list(instr), said)?;
+    said.push_str(faults_of(
+        has_variant(rows, shown.as_str()),
+        is_unsupported(instr) == is_float_name(name_in(text.as_str())),
+    ))
+}
+
+fn faults_of(variant: bool, support: bool) -> &'static str {
+    match (variant, support) {
+        (true, true) => "\n",
+        (true, false) => " of other support\n",
+        (false, true) => " of another variant\n",
+        (false, false) => " of another variant and of other support\n",
+    }
+}
+
+// The line of the instruction at a place, and the next place.
+fn say_place(
+    alloc: Global,
+    rows: &[&'static str],
+    code: &[u8],
+    place: usize,
+    said: &mut String,
+) -> Result<usize, AllocError> {
+    let Some(Ok((instr, next))) = answer(code, place) else {
+        said.push_str("no instruction\n")?;
+        return Ok(code.len());
+    };
+    say_number(alloc, place as u64, said)?;
+    said.push_str(if are_fronts_cut(code, place, next as usize) {
+        " "
+    } else {
+        " not cut "
+    })?;
+    say_instr(alloc, rows, &instr, said)?;
+    Ok(next as usize)
+}
+
+fn say_places(
+    alloc: Global,
+    rows: &[&'static str],
+    code: &[u8],
+    said: &mut String,
+) -> Result<(), AllocError> {
+    let mut place = 0;
+    for _ in 0..code.len() {
+        if place < code.len() {
+            place = say_place(alloc, rows, code, place, said)?;
+        }
+    }
+    Ok(())
+}
+
+// A line for each instruction of a code: its place, its mnemonic and its operands.
+fn listing(alloc: Global, code: &[u8]) -> Result<String, AllocError> {
+    let rows = table_rows(alloc)?;
+    let mut said = String::new(alloc);
+    say_places(alloc, rows.as_slice(), code, &mut said)?;
+    Ok(said)
+}
+
+fn push_line(line: &str, code: &mut Vec<u8>) -> Result<(), AllocError> {
+    for digits in line.split(' ') {
+        code.push(byte_of(digits))?;
+    }
+    Ok(())
+}
+
+fn code(alloc: Global) -> Result<Vec<u8>, AllocError> {
+    let mut code = Vec::new(alloc);
+    for line in CODE.lines() {
+        push_line(line, &mut code)?;
+    }
+    Ok(code)
+}
+
+// Writes the instruction at a place of the code behind those before it.
+fn rewrite(code: &[u8], place: usize, out: &mut Vec<u8>) -> Result<(), AllocError> {
+    let Some(Ok((instr, _))) = answer(code, place) else {
+        return Ok(());
+    };
+    match write(&instr, place as u32, out) {
+        Ok(()) => Ok(()),
+        Err(_) => Err(AllocError),
+    }
+}
+
+// The code with each instruction of the listing written again.
+fn written(alloc: Global, code: &[u8]) -> Result<Vec<u8>, AllocError> {
+    let mut out = Vec::new(alloc);
+    for line in LISTING.lines() {
+        rewrite(code, name_in(line).parse::<usize>().unwrap_or(usize::MAX), &mut out)?;
+    }
+    Ok(out)
+}
+
+fn listed(alloc: Global) -> Result<String, AllocError> {
+    let code = code(alloc)?;
+    listing(alloc, code.as_slice())
+}
+
+fn listed_again(alloc: Global) -> Result<String, AllocError> {
+    let code = code(alloc)?;
+    let out = written(alloc, code.as_slice())?;
+    if out.len() != code.len() {
+        return String::from_str(alloc, "of another length");
+    }
+    listing(alloc, out.as_slice())
+}
+
+#[test]
+fn a_code_is_read_as_javap_reads_it_and_cut_within_each_instruction(
+    rt: HostRuntime,
+) -> Result<(), Fail> {
+    answers_are_exact();
+    behind_is_unread();
+    cut_goes_on();
+    assert_eq!(rt; listed(rt.alloc())?.as_str(), LISTING);
+    Ok(())
+}
+
+#[test]
+fn what_was_read_is_written(rt: HostRuntime) -> Result<(), Fail> {
+    assert_eq!(rt; listed_again(rt.alloc())?.as_str(), LISTING);
+    Ok(())
+}
