@@ -6,22 +6,34 @@ use jsa_ops::{Instr, OpFault, form_of, write};
 use std::alloc::{AllocError, Global};
 use std::test::Fail;
 
-// A row's byte and form, as they are said of a byte.
+fn is_number(alloc: Global, byte: u8, text: &str) -> Result<bool, AllocError> {
+    let number = format!(in alloc; "{byte}")?;
+    Ok(number.as_str() == text)
+}
+
+fn is_form(alloc: Global, byte: u8, text: &str) -> Result<bool, AllocError> {
+    let shown = format!(in alloc; "{:?}", form_of(byte))?;
+    let form = shown.as_str().strip_prefix("Some(").unwrap_or("");
+    Ok(form.strip_suffix(')').unwrap_or("") == text)
+}
+
+// Whether a row has this byte and its form.
 fn has_row(alloc: Global, row: &str, byte: u8) -> Result<bool, AllocError> {
     let (code, words) = first_word(row);
-    let (_, form) = words.rsplit_once(' ').unwrap_or((words, ""));
-    let wanted = format!(in alloc; "{byte} {:?}", form_of(byte))?;
-    let said = format!(in alloc; "{code} Some({form})")?;
-    Ok(said.as_str() == wanted.as_str())
+    let (_, form) = words.rsplit_once(' ').unwrap_or((words, "no form"));
+    if !is_number(alloc, byte, code)? {
+        return Ok(false);
+    }
+    is_form(alloc, byte, form)
 }
 
 // How many rows of the table, in their order, are those of the bytes from 0 on.
 fn held_rows(alloc: Global, rows: &[&'static str]) -> Result<u64, AllocError> {
-    let mut count = 0;
+    let mut count = 0u64;
     for byte in 0..=255u8 {
         if let Some(row) = rows.get(usize::from(byte)) {
             if has_row(alloc, row, byte)? {
-                count += 1;
+                count = count.saturating_add(1);
             }
         }
     }
@@ -30,21 +42,27 @@ fn held_rows(alloc: Global, rows: &[&'static str]) -> Result<u64, AllocError> {
 
 // The bytes from 202 on that have no form.
 fn formless() -> u64 {
-    let mut count = 0;
+    let mut count = 0u64;
     for byte in 202..=255u8 {
         if form_of(byte).is_none() {
-            count += 1;
+            count = count.saturating_add(1);
         }
     }
     count
 }
 
 // How many rows there are, how many of them are right, and how many bytes behind them have no form.
+fn say_rows(alloc: Global, rows: &[&'static str], said: &mut String) -> Result<(), AllocError> {
+    say_number(alloc, rows.len() as u64, said)?;
+    said.push_str(" ")?;
+    say_number(alloc, held_rows(alloc, rows)?, said)?;
+    said.push_str(" ")?;
+    say_number(alloc, formless(), said)
+}
+
 fn say_table(alloc: Global, said: &mut String) -> Result<(), AllocError> {
     let rows = table_rows(alloc)?;
-    let held = held_rows(alloc, rows.as_slice())?;
-    let text = format!(in alloc; "{} {held} {}", rows.len(), formless())?;
-    said.push_str(text.as_str())
+    say_rows(alloc, rows.as_slice(), said)
 }
 
 // A write of bipush -128.
@@ -64,10 +82,10 @@ fn is_bad(code: &[u8], place: usize, byte: u8) -> bool {
 
 // The bytes above the opcodes that name no instruction, neither at the start nor behind one.
 fn nameless() -> u64 {
-    let mut count = 0;
+    let mut count = 0u64;
     for byte in 0xca..=0xffu8 {
         if is_bad(&[byte, 0, 0, 0, 0], 0, byte) && is_bad(&[0, byte], 1, byte) {
-            count += 1;
+            count = count.saturating_add(1);
         }
     }
     count

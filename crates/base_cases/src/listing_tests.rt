@@ -74,19 +74,21 @@ fn is_read(code: &[u8], place: usize) -> bool {
     matches!(answer(code, place), Some(Ok(_)))
 }
 
+fn is_front_cut(code: &[u8], place: usize, end: usize) -> bool {
+    match code.get(..end) {
+        Some(front) => is_cut(front, place),
+        None => false,
+    }
+}
+
 // Whether what ends within the instruction is cut, and what ends behind it isn't.
 fn are_fronts_cut(code: &[u8], place: usize, next: usize) -> bool {
-    let mut front = code.get(..next).unwrap_or(&[]);
-    if !is_read(front, place) {
-        return false;
-    }
-    while let [more @ .., _] = front {
-        front = more;
-        if place < front.len() && !is_cut(front, place) {
+    for end in 0..next {
+        if place < end && !is_front_cut(code, place, end) {
             return false;
         }
     }
-    true
+    is_read(code.get(..next).unwrap_or(&[]), place)
 }
 
 // The distances or the pairs of a switch.
@@ -143,39 +145,37 @@ fn say_numbers(numbers: &str, said: &mut String) -> Result<(), AllocError> {
     Ok(())
 }
 
-// An instruction behind wide has the name of the opcode there, with `_w` behind it.
-fn say_wide(
-    rows: &[&'static str],
-    numbers: &str,
-    said: &mut String,
-) -> Result<(), AllocError> {
-    let (code, operands) = first_number(numbers);
-    said.push_str(word(rows, code, 1))?;
-    said.push_str("_w")?;
-    say_numbers(operands, said)
-}
-
-fn say_plain(
-    rows: &[&'static str],
-    opcode: &str,
-    numbers: &str,
-    said: &mut String,
-) -> Result<(), AllocError> {
-    said.push_str(word(rows, opcode, 1))?;
-    say_numbers(numbers, said)
-}
-
-// The mnemonic, and the operands that are numbers.
-fn say_shown(rows: &[&'static str], shown: &str, said: &mut String) -> Result<(), AllocError> {
+// The mnemonic, and of an instruction behind wide that of the opcode there.
+fn name_of(rows: &[&'static str], shown: &str) -> &'static str {
     let (opcode, numbers) = first_number(numbers_in(shown));
     match variant_in(shown) {
-        "Wide" => say_wide(rows, numbers, said),
-        "WideIinc" => {
-            said.push_str("iinc_w")?;
-            say_numbers(numbers, said)
-        }
-        _ => say_plain(rows, opcode, numbers, said),
+        "Wide" => word(rows, first_number(numbers).0, 1),
+        "WideIinc" => "iinc",
+        _ => word(rows, opcode, 1),
     }
+}
+
+// The operands that are numbers.
+fn operands_in(shown: &str) -> &str {
+    let (_, numbers) = first_number(numbers_in(shown));
+    match variant_in(shown) {
+        "Wide" => first_number(numbers).1,
+        _ => numbers,
+    }
+}
+
+// What stands behind the mnemonic of an instruction behind wide.
+fn ending(variant: &str) -> &'static str {
+    match variant {
+        "Wide" | "WideIinc" => "_w",
+        _ => "",
+    }
+}
+
+fn say_shown(rows: &[&'static str], shown: &str, said: &mut String) -> Result<(), AllocError> {
+    said.push_str(name_of(rows, shown))?;
+    said.push_str(ending(variant_in(shown)))?;
+    say_numbers(operands_in(shown), said)
 }
 
 // Whether the variant is the row's, or wide's where iinc stands behind it.
@@ -187,23 +187,29 @@ fn has_variant(rows: &[&'static str], shown: &str) -> bool {
     }
 }
 
-fn is_conversion(name: &str) -> bool {
-    name == "i2f" || name == "i2d" || name == "l2f" || name == "l2d"
-}
-
-// Whether the name begins with f or d and is no dup, or is one of these.
+// Whether the name begins with f or d and is no dup, ends with 2f or 2d, or is invokedynamic.
 fn is_float_name(name: &str) -> bool {
-    let begins = name.starts_with('f') || name.starts_with('d') && !name.starts_with("dup");
-    begins || is_conversion(name) || name == "invokedynamic"
-}
-
-// The name that a text begins with.
-fn name_in(text: &str) -> &str {
-    let (name, _) = text.split_once(' ').unwrap_or((text, ""));
-    name
+    if name.starts_with("dup") {
+        return false;
+    }
+    let begins = name.starts_with('f') || name.starts_with('d');
+    begins || name.ends_with("2f") || name.ends_with("2d") || name == "invokedynamic"
 }
 
 // The mnemonic and the operands, and what is wrong with the variant or with what is supported.
+fn say_line(
+    alloc: Global,
+    rows: &[&'static str],
+    instr: &Instr<'_>,
+    shown: &str,
+    said: &mut String,
+) -> Result<(), AllocError> {
+    say_shown(rows, shown, said)?;
+    say_quads(alloc, list(instr), said)?;
+    let support = is_unsupported(instr) == is_float_name(name_of(rows, shown));
+    said.push_str(faults_of(has_variant(rows, shown), support))
+}
+
 fn say_instr(
     alloc: Global,
     rows: &[&'static str],
@@ -211,14 +217,7 @@ fn say_instr(
     said: &mut String,
 ) -> Result<(), AllocError> {
     let shown = format!(in alloc; "{instr:?}")?;
-    let mut text = String::new(alloc);
-    say_shown(rows, shown.as_str(), &mut text)?;
-    said.push_str(text.as_str())?;
-    say_quads(alloc, list(instr), said)?;
-    said.push_str(faults_of(
-        has_variant(rows, shown.as_str()),
-        is_unsupported(instr) == is_float_name(name_in(text.as_str())),
-    ))
+    say_line(alloc, rows, instr, shown.as_str(), said)
 }
 
 fn faults_of(variant: bool, support: bool) -> &'static str {
@@ -228,6 +227,21 @@ fn faults_of(variant: bool, support: bool) -> &'static str {
         (false, true) => " of another variant\n",
         (false, false) => " of another variant and of other support\n",
     }
+}
+
+// A place, and whether the fronts of the code that end within its instruction aren't cut.
+fn say_front(
+    alloc: Global,
+    code: &[u8],
+    place: usize,
+    next: usize,
+    said: &mut String,
+) -> Result<(), AllocError> {
+    say_number(alloc, place as u64, said)?;
+    if are_fronts_cut(code, place, next) {
+        return said.push_str(" ");
+    }
+    said.push_str(" not cut ")
 }
 
 // The line of the instruction at a place, and the next place.
@@ -242,14 +256,10 @@ fn say_place(
         said.push_str("no instruction\n")?;
         return Ok(code.len());
     };
-    say_number(alloc, place as u64, said)?;
-    said.push_str(if are_fronts_cut(code, place, next as usize) {
-        " "
-    } else {
-        " not cut "
-    })?;
+    let next = next as usize;
+    say_front(alloc, code, place, next, said)?;
     say_instr(alloc, rows, &instr, said)?;
-    Ok(next as usize)
+    Ok(next)
 }
 
 fn say_places(
@@ -295,17 +305,23 @@ fn rewrite(code: &[u8], place: usize, out: &mut Vec<u8>) -> Result<(), AllocErro
     let Some(Ok((instr, _))) = answer(code, place) else {
         return Ok(());
     };
-    match write(&instr, place as u32, out) {
+    match write(&instr, u32::try_from(place).unwrap_or(0), out) {
         Ok(()) => Ok(()),
         Err(_) => Err(AllocError),
     }
+}
+
+// The place that a line of the listing begins with.
+fn place_in(line: &str) -> usize {
+    let (place, _) = line.split_once(' ').unwrap_or((line, ""));
+    place.parse::<usize>().unwrap_or(usize::MAX)
 }
 
 // The code with each instruction of the listing written again.
 fn written(alloc: Global, code: &[u8]) -> Result<Vec<u8>, AllocError> {
     let mut out = Vec::new(alloc);
     for line in LISTING.lines() {
-        rewrite(code, name_in(line).parse::<usize>().unwrap_or(usize::MAX), &mut out)?;
+        rewrite(code, place_in(line), &mut out)?;
     }
     Ok(out)
 }

@@ -6,10 +6,18 @@ use loader_rules::{Found, Loader, Paths, find, same_package};
 use std::alloc::{AllocError, Global};
 use std::test::Fail;
 
+// The rows have few folders.
+fn push_name(names: &mut Names, name: &str) -> Result<(), AllocError> {
+    if names.len() < 9 {
+        return names.push(name);
+    }
+    Err(AllocError)
+}
+
 fn names(alloc: Global, words: &str) -> Result<Names, AllocError> {
     let mut names = Names::new(alloc);
     for word in words.split_whitespace() {
-        names.push(word)?;
+        push_name(&mut names, word)?;
     }
     Ok(names)
 }
@@ -24,11 +32,9 @@ fn paths_of(alloc: Global, words: &str) -> Result<Option<Paths>, AllocError> {
     Ok(Paths::new(boot, platform, app))
 }
 
-fn paths_word(alloc: Global, words: &str) -> Result<&'static str, AllocError> {
-    match paths_of(alloc, words)? {
-        Some(_) => Ok("taken"),
-        None => Ok("too many"),
-    }
+fn say_paths(alloc: Global, words: &str, said: &mut String) -> Result<(), AllocError> {
+    let taken = paths_of(alloc, words)?.is_some();
+    said.push_str(if taken { "taken" } else { "too many" })
 }
 
 fn loader(word: &str) -> Option<Loader> {
@@ -170,7 +176,7 @@ fn say(alloc: Global, call: &str, said: &mut String) -> Result<(), AllocError> {
     let (verb, words) = first_word(call);
     match verb {
         "find" | "reads" | "third-fails" => say_store(alloc, verb, words, said),
-        "paths" => said.push_str(paths_word(alloc, words)?),
+        "paths" => say_paths(alloc, words, said),
         "package" => said.push_str(package_word(words)),
         _ => said.push_str("no call"),
     }

@@ -217,14 +217,24 @@ fn say_method(
     }
 }
 
+fn say_unit(alloc: Global, unit: u16, said: &mut String) -> Result<(), AllocError> {
+    let text = format!(in alloc; "{unit:x};")?;
+    said.push_str(text.as_str())
+}
+
+fn say_each_unit(alloc: Global, units: &[u16], said: &mut String) -> Result<(), AllocError> {
+    for unit in units {
+        say_unit(alloc, *unit, said)?;
+    }
+    Ok(())
+}
+
 fn say_units(alloc: Global, bytes: &[u8], said: &mut String) -> Result<(), AllocError> {
     if !is_mutf8(bytes) {
         return said.push_str("no text");
     }
-    for unit in utf16(alloc, bytes)? {
-        said.push_str(&format!(in alloc; "{unit:x};")?)?;
-    }
-    Ok(())
+    let units = utf16(alloc, bytes)?;
+    say_each_unit(alloc, units.as_slice(), said)
 }
 
 fn say_path(

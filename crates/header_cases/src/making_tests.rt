@@ -94,10 +94,18 @@ fn say_loaders(manifest: &Manifest, said: &mut String) -> Result<(), AllocError>
     Ok(())
 }
 
+// The rows have few folders.
+fn push_name(names: &mut Names, name: &str) -> Result<(), AllocError> {
+    if names.len() < 9 {
+        return names.push(name);
+    }
+    Err(AllocError)
+}
+
 fn names(alloc: Global, words: &str) -> Result<Names, AllocError> {
     let mut names = Names::new(alloc);
     for word in words.split_whitespace() {
-        names.push(word)?;
+        push_name(&mut names, word)?;
     }
     Ok(names)
 }
