@@ -4,6 +4,7 @@ ghost use Rattle.std.specs.List.{AllByRecursion};
 ghost use Rattle.std.specs.Str.{bytes_eq};
 ghost use Rattle.std.specs.Vec.{vec_len, vec_capacity};
 ghost use Rattle.class_record.specs.declared.fault.TheConstants.{MAX_LOADED};
+ghost use Rattle.class_record.specs.Trees as trees;
 ghost use Rattle.class_record.specs.Trees.{HasShortLists, own_name, bases_of};
 ghost use Rattle.class_record.specs.Facts.{names_of};
 ghost use Rattle.class_record.specs.Loading.{is_among};
@@ -89,11 +90,17 @@ fn held_class(loader: Loader, folder: u32, tree: ClassTree, up: LookedUp) -> Hel
 }
 
 // Notes the place of a name that has none yet.
-fn note(places: &mut IndexMap<Vec<u8>, u32>, name: Vec<u8>, id: u32) -> Result<(), AllocError>
-    requires { known_at places.old name.items ≡ None }
-    ensures ok { OnOk result ((other : List ℕ) → known_at places.new other ≡ (if bytes_eq name.items other then Some id else known_at places.old other)) }
+fn note(
+    alloc: Global,
+    places: &mut IndexMap<Vec<u8>, u32>,
+    name: &[u8],
+    id: u32,
+) -> Result<(), AllocError>
+    requires { known_at places.old name.now ≡ None }
+    ensures ok { OnOk result ((other : List ℕ) → known_at places.new other ≡ (if bytes_eq name.now other then Some id else known_at places.old other)) }
     ensures err { OnErr result ((other : List ℕ) → known_at places.new other ≡ known_at places.old other) }
 {
+    let name = Vec::from_slice(alloc, name)?;
     let Ok(_) = places.insert(name, id) else {
         return Err(AllocError);
     };
@@ -119,6 +126,45 @@ fn make_room<T: Drop>(list: &mut Vec<T>) -> Result<(), AllocError>
     list.reserve(1)
 }
 
+// Makes room for one class more.
+fn make_rooms(
+    classes: &mut Vec<HeldClass>,
+    linked: &mut Vec<bool>,
+    words: &mut Vec<Items<u64>>,
+) -> Result<(), AllocError>
+    ensures classes { classes.new.items ≡ classes.old.items }
+    ensures linked { linked.new.items ≡ linked.old.items }
+    ensures words { words.new.items ≡ words.old.items }
+    ensures classes_room { OnOk result (vec_len classes.new < vec_capacity classes.new) }
+    ensures linked_room { OnOk result (vec_len linked.new < vec_capacity linked.new) }
+    ensures words_room { OnOk result (vec_len words.new < vec_capacity words.new) }
+{
+    make_room(classes)?;
+    make_room(linked)?;
+    make_room(words)
+}
+
+// Looks up what a new class needs beside its tree, and notes its place last.
+fn prepare(
+    alloc: Global,
+    classes: &[HeldClass],
+    places: &mut IndexMap<Vec<u8>, u32>,
+    tree: &ClassTree,
+    id: u32,
+) -> Result<(LookedUp, Items<u64>), AllocError>
+    requires room { size_at classes.now (base_id places.old tree.now.pool tree.now.sup) + length tree.now.fields < 2 ^ 32 }
+    requires fresh { known_at places.old (trees.own_name tree.now) ≡ None }
+    ensures up { IfOk result (λ made. IsLookedUp classes.now places.old tree.now made.0) }
+    ensures words { IfOk result (λ made. made.1 ≡ replicate (length tree.now.pool) 0) }
+    ensures ok { OnOk result ((other : List ℕ) → known_at places.new other ≡ (if bytes_eq (trees.own_name tree.now) other then Some id else known_at places.old other)) }
+    ensures err { OnErr result ((other : List ℕ) → known_at places.new other ≡ known_at places.old other) }
+{
+    let words = new_words(alloc, tree.pool.entries().len())?;
+    let up = look_up(alloc, classes, places, tree)?;
+    note(alloc, places, own_name(tree), id)?;
+    Ok((up, words))
+}
+
 impl LoadedClasses {
     /// Loads the class of a tree, which the loader defines by a file of the folder. What it is based on is loaded, and no
     /// class of its name is.
@@ -140,26 +186,17 @@ impl LoadedClasses {
         ensures err { IfErr result (λ back. (back ≡ tree) × (self.new ≡ self.old)) }
     {
         let id = self.classes.len() as u32;
-        let Ok(up) = look_up(self.alloc, self.classes.as_slice(), &self.places, &tree) else {
-            return Err(tree);
-        };
-        let Ok(words) = new_words(self.alloc, tree.pool.entries().len()) else {
-            return Err(tree);
-        };
-        let Ok(name) = Vec::from_slice(self.alloc, own_name(&tree)) else {
-            return Err(tree);
-        };
-        let Ok(()) = make_room(&mut self.classes) else {
-            return Err(tree);
-        };
-        let Ok(()) = make_room(&mut self.linked) else {
-            return Err(tree);
-        };
-        let Ok(()) = make_room(&mut self.words) else {
+        let Ok(()) = make_rooms(&mut self.classes, &mut self.linked, &mut self.words) else {
             return Err(tree);
         };
         // Nothing fails once the name is noted.
-        let Ok(()) = note(&mut self.places, name, id) else {
+        let Ok((up, words)) = prepare(
+            self.alloc,
+            self.classes.as_slice(),
+            &mut self.places,
+            &tree,
+            id,
+        ) else {
             return Err(tree);
         };
         put(&mut self.classes, held_class(loader, folder, tree, up));

@@ -1,9 +1,10 @@
 //! The required classes.
-ghost use Rattle.std.specs.Prelude.{◌≡◌, [], true, false, Some, None};
+ghost use Rattle.std.specs.Prelude.{◌≡◌, ◌<◌, ◌≤◌, Some};
 ghost use Rattle.std.specs.Option.{option_map};
 ghost use Rattle.vm_start.specs.Required as asked;
 ghost use Rattle.vm_start.specs.Starting as spec;
-ghost use Rattle.vm_start.specs.Table.{row_of, numbered};
+ghost use Rattle.vm_start.specs.Table.{row_of, extending, numbered};
+ghost use Rattle.vm_start.specs.Table as table;
 
 /// An instance field (JVMS 4.5) that a class has to declare.
 #[derive(Clone, Copy)]
@@ -36,7 +37,7 @@ fn interface_named(name: &'static str) -> Row
 
 // Both are whole names.
 fn extends(name: &'static str, sup: &'static str) -> Row
-    ensures { row_of result ≡ (record { name = name.now; sup = Some sup.now; interfaces = []; is_interface = false; field = None }) }
+    ensures { row_of result ≡ extending name.now sup.now }
 {
     Row {
         name,
@@ -93,6 +94,134 @@ fn throwable_class() -> Row
     }
 }
 
+/// The superclasses of the classes from 9 on, all of them of `java.lang`.
+#[derive(Clone, Copy)]
+pub(crate) enum Above {
+    Throwable,
+    Exception,
+    Error,
+    LinkageError,
+    ClassFormatError,
+    IncompatibleClassChangeError,
+    VirtualMachineError,
+    RuntimeException,
+    IndexOutOfBoundsException,
+}
+
+fn above_name(above: Above) -> &'static str
+    ensures { result.now ≡ table.above_name above }
+{
+    match above {
+        Above::Throwable => "java/lang/Throwable",
+        Above::Exception => "java/lang/Exception",
+        Above::Error => "java/lang/Error",
+        Above::LinkageError => "java/lang/LinkageError",
+        Above::ClassFormatError => "java/lang/ClassFormatError",
+        Above::IncompatibleClassChangeError => "java/lang/IncompatibleClassChangeError",
+        Above::VirtualMachineError => "java/lang/VirtualMachineError",
+        Above::RuntimeException => "java/lang/RuntimeException",
+        Above::IndexOutOfBoundsException => "java/lang/IndexOutOfBoundsException",
+    }
+}
+
+// The name of a class from 9 to 23, and its superclass.
+fn first_names(number: u32) -> (&'static str, Above)
+    ensures { 9 ≤ number → number < 24 → Some (extending result.0.now (table.above_name result.1)) ≡ numbered number }
+{
+    match number {
+        0..=8 => ("", Above::Error),
+        9 => ("java/lang/Error", Above::Throwable),
+        10 => ("java/lang/Exception", Above::Throwable),
+        11 => ("java/lang/RuntimeException", Above::Exception),
+        12 => ("java/lang/LinkageError", Above::Error),
+        13 => ("java/lang/NoClassDefFoundError", Above::LinkageError),
+        14 => ("java/lang/ClassFormatError", Above::LinkageError),
+        15 => (
+            "java/lang/UnsupportedClassVersionError",
+            Above::ClassFormatError,
+        ),
+        16 => ("java/lang/ClassCircularityError", Above::LinkageError),
+        17 => (
+            "java/lang/IncompatibleClassChangeError",
+            Above::LinkageError,
+        ),
+        18 => (
+            "java/lang/AbstractMethodError",
+            Above::IncompatibleClassChangeError,
+        ),
+        19 => (
+            "java/lang/IllegalAccessError",
+            Above::IncompatibleClassChangeError,
+        ),
+        20 => (
+            "java/lang/InstantiationError",
+            Above::IncompatibleClassChangeError,
+        ),
+        21 => (
+            "java/lang/NoSuchFieldError",
+            Above::IncompatibleClassChangeError,
+        ),
+        22 => (
+            "java/lang/NoSuchMethodError",
+            Above::IncompatibleClassChangeError,
+        ),
+        23 => ("java/lang/UnsatisfiedLinkError", Above::LinkageError),
+        24.. => ("", Above::Error),
+    }
+}
+
+// The name of a class from 24 to 38, and its superclass.
+fn later_names(number: u32) -> (&'static str, Above)
+    ensures { 24 ≤ number → number < 39 → Some (extending result.0.now (table.above_name result.1)) ≡ numbered number }
+{
+    match number {
+        0..=23 => ("", Above::Error),
+        24 => ("java/lang/VerifyError", Above::LinkageError),
+        25 => ("java/lang/ExceptionInInitializerError", Above::LinkageError),
+        26 => ("java/lang/VirtualMachineError", Above::Error),
+        27 => ("java/lang/OutOfMemoryError", Above::VirtualMachineError),
+        28 => ("java/lang/StackOverflowError", Above::VirtualMachineError),
+        29 => ("java/lang/ArithmeticException", Above::RuntimeException),
+        30 => (
+            "java/lang/IndexOutOfBoundsException",
+            Above::RuntimeException,
+        ),
+        31 => (
+            "java/lang/ArrayIndexOutOfBoundsException",
+            Above::IndexOutOfBoundsException,
+        ),
+        32 => (
+            "java/lang/StringIndexOutOfBoundsException",
+            Above::IndexOutOfBoundsException,
+        ),
+        33 => ("java/lang/ArrayStoreException", Above::RuntimeException),
+        34 => ("java/lang/ClassCastException", Above::RuntimeException),
+        35 => (
+            "java/lang/NegativeArraySizeException",
+            Above::RuntimeException,
+        ),
+        36 => ("java/lang/NullPointerException", Above::RuntimeException),
+        37 => (
+            "java/lang/IllegalMonitorStateException",
+            Above::RuntimeException,
+        ),
+        38 => ("java/lang/CloneNotSupportedException", Above::Exception),
+        39.. => ("", Above::Error),
+    }
+}
+
+// A class from 9 to 38.
+fn throwable_named(number: u32) -> Row
+    ensures { 9 ≤ number → number < 39 → Some (row_of result) ≡ numbered number }
+{
+    let (name, above) = if number < 24 {
+        first_names(number)
+    } else {
+        later_names(number)
+    };
+    extends(name, above_name(above))
+}
+
 /// The class with this number, from 1 on.
 pub(crate) fn required(number: u32) -> Option<Row>
     ensures { option_map row_of result ≡ numbered number }
@@ -107,93 +236,7 @@ pub(crate) fn required(number: u32) -> Option<Row>
         6 => Some(string_class()),
         7 => Some(extends("java/lang/Class", "java/lang/Object")),
         8 => Some(throwable_class()),
-        9 => Some(extends("java/lang/Error", "java/lang/Throwable")),
-        10 => Some(extends("java/lang/Exception", "java/lang/Throwable")),
-        11 => Some(extends("java/lang/RuntimeException", "java/lang/Exception")),
-        12 => Some(extends("java/lang/LinkageError", "java/lang/Error")),
-        13 => Some(extends("java/lang/NoClassDefFoundError", "java/lang/LinkageError")),
-        14 => Some(extends("java/lang/ClassFormatError", "java/lang/LinkageError")),
-        15 => Some(extends(
-            "java/lang/UnsupportedClassVersionError",
-            "java/lang/ClassFormatError",
-        )),
-        16 => Some(extends("java/lang/ClassCircularityError", "java/lang/LinkageError")),
-        17 => Some(extends(
-            "java/lang/IncompatibleClassChangeError",
-            "java/lang/LinkageError",
-        )),
-        18 => Some(extends(
-            "java/lang/AbstractMethodError",
-            "java/lang/IncompatibleClassChangeError",
-        )),
-        19 => Some(extends(
-            "java/lang/IllegalAccessError",
-            "java/lang/IncompatibleClassChangeError",
-        )),
-        20 => Some(extends(
-            "java/lang/InstantiationError",
-            "java/lang/IncompatibleClassChangeError",
-        )),
-        21 => Some(extends(
-            "java/lang/NoSuchFieldError",
-            "java/lang/IncompatibleClassChangeError",
-        )),
-        22 => Some(extends(
-            "java/lang/NoSuchMethodError",
-            "java/lang/IncompatibleClassChangeError",
-        )),
-        23 => Some(extends("java/lang/UnsatisfiedLinkError", "java/lang/LinkageError")),
-        24 => Some(extends("java/lang/VerifyError", "java/lang/LinkageError")),
-        25 => Some(extends(
-            "java/lang/ExceptionInInitializerError",
-            "java/lang/LinkageError",
-        )),
-        26 => Some(extends("java/lang/VirtualMachineError", "java/lang/Error")),
-        27 => Some(extends(
-            "java/lang/OutOfMemoryError",
-            "java/lang/VirtualMachineError",
-        )),
-        28 => Some(extends(
-            "java/lang/StackOverflowError",
-            "java/lang/VirtualMachineError",
-        )),
-        29 => Some(extends(
-            "java/lang/ArithmeticException",
-            "java/lang/RuntimeException",
-        )),
-        30 => Some(extends(
-            "java/lang/IndexOutOfBoundsException",
-            "java/lang/RuntimeException",
-        )),
-        31 => Some(extends(
-            "java/lang/ArrayIndexOutOfBoundsException",
-            "java/lang/IndexOutOfBoundsException",
-        )),
-        32 => Some(extends(
-            "java/lang/StringIndexOutOfBoundsException",
-            "java/lang/IndexOutOfBoundsException",
-        )),
-        33 => Some(extends(
-            "java/lang/ArrayStoreException",
-            "java/lang/RuntimeException",
-        )),
-        34 => Some(extends("java/lang/ClassCastException", "java/lang/RuntimeException")),
-        35 => Some(extends(
-            "java/lang/NegativeArraySizeException",
-            "java/lang/RuntimeException",
-        )),
-        36 => Some(extends(
-            "java/lang/NullPointerException",
-            "java/lang/RuntimeException",
-        )),
-        37 => Some(extends(
-            "java/lang/IllegalMonitorStateException",
-            "java/lang/RuntimeException",
-        )),
-        38 => Some(extends(
-            "java/lang/CloneNotSupportedException",
-            "java/lang/Exception",
-        )),
+        9..=38 => Some(throwable_named(number)),
         39.. => None,
     }
 }
