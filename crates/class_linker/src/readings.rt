@@ -2,6 +2,7 @@
 ghost use Rattle.std.specs.Prelude.{◌≡◌, ◌<◌, ◌++◌, ◌∷◌, [], List, ℕ, Some, None, false, length, slice_get, IfOk, OnOk, OnErr, if◌then◌else◌};
 ghost use Rattle.std.specs.Str.{bytes_eq};
 ghost use Rattle.std.specs.Option.{option_map};
+ghost use Rattle.std.specs.Vec.{vec_len, vec_capacity};
 ghost use Rattle.class_record.specs.Loading.{is_among};
 ghost use Rattle.class_linker.specs.declared.readings.Held.TheVariants as held;
 ghost use Rattle.class_linker.specs.Places.{place_known};
@@ -62,6 +63,36 @@ fn note(
     }
 }
 
+// Makes room for a reading more, and notes its place last.
+fn make_ready(
+    alloc: Global,
+    list: &mut Vec<Reading>,
+    places: &mut IndexMap<Vec<u8>, usize>,
+    name: &[u8],
+    place: usize,
+) -> Result<(), AllocError>
+    requires { place_known places.old name.now ≡ None }
+    ensures list { list.new.items ≡ list.old.items }
+    ensures room { OnOk result (vec_len list.new < vec_capacity list.new) }
+    ensures ok { OnOk result ((n : List ℕ) → place_known places.new n ≡ (if bytes_eq name.now n then Some place else place_known places.old n)) }
+    ensures err { OnErr result ((n : List ℕ) → place_known places.new n ≡ place_known places.old n) }
+{
+    list.reserve(1)?;
+    let name = Vec::from_slice(alloc, name)?;
+    note(places, name, place)
+}
+
+// Puts an item at the end, where there is room.
+fn put<T: Drop>(list: &mut Vec<T>, item: T)
+    requires { vec_len list.old < vec_capacity list.old }
+    ensures { list.new.items ≡ list.old.items ++ item ∷ [] }
+{
+    match list.push(item) {
+        Ok(()) => (),
+        Err(_) => unreachable!(),
+    }
+}
+
 /// The class files that were read, in the order of reading, which is that in which their loading began. Each has a name of
 /// its own.
 ///
@@ -118,13 +149,10 @@ impl Readings {
         ensures err { OnErr result (self.new ≡ self.old) }
     {
         let place = self.list.len();
-        let name = Vec::from_slice(self.alloc, reading.name.as_slice())?;
-        self.list.reserve(1)?;
-        note(&mut self.places, name, place)?;
-        match self.list.push(reading) {
-            Ok(()) => Ok(place),
-            Err(_) => unreachable!(),
-        }
+        let name = reading.name.as_slice();
+        make_ready(self.alloc, &mut self.list, &mut self.places, name, place)?;
+        put(&mut self.list, reading);
+        Ok(place)
     }
 
     /// Takes the tree that is held at a place for its class, which is loaded then.
