@@ -24,7 +24,7 @@ use Rattle.class_asm.specs.declared.code_draft.FrameTable.{FrameTable}
 use Rattle.class_asm.specs.Labels.{Label, is_named, is_near}
 use Rattle.class_asm.specs.Code.{resolved, emitted, of_index, alone}
 use Rattle.class_asm.specs.Frames.{short_place, type_text, types_text, counted_types, frame_text, delta}
-use Rattle.class_asm.specs.Drafts.{optional_class_needed, classes_needed, value_needed, field_added, method_begun, code_begun, label_passed, operation_added, handler_added, table_begun, frame_added, code_ended}
+use Rattle.class_asm.specs.Drafts.{optional_class_needed, classes_needed, value_needed, field_added, method_begun, code_begun, label_passed, operation_added, handler_added, table_begun, table_grown, frame_added, code_ended}
 use Rattle.class_asm.proofs.Keeping.{Keeps, keeps_same, keeps_then, AllIn, bind_all, when_all, some_all, KeepsIn, from, text_keeps, class_keeps, constant_keeps, member_keeps}
 
 -- ---- needs
@@ -195,14 +195,20 @@ unfolding table_begun
 table_keeps (Some table) pool = some_all (table, pool) (λ x. Keeps pool x.1) (keeps_same pool)
 table_keeps None pool = bind_all (text_needed (codes "StackMapTable") pool) _ (λ x. Keeps pool x.1) (λ x. Keeps pool x.1) (text_keeps (codes "StackMapTable") pool) (λ name k. some_all _ (λ x. Keeps pool x.1) k)
 
+grown_keeps : (line : FrameLine) (labels : List Label) (table : FrameTable) (pool : List PoolEntry) → KeepsIn pool (table_grown line labels table pool)
+unfolding table_grown
+grown_keeps line labels table pool =
+    when_all _ _ (λ x. Keeps pool x.1) (bind_all (short_place labels line.label) _ (λ x. ⊤) (λ x. Keeps pool x.1) (any_place (short_place labels line.label))
+    (λ at p. bind_all (delta table.last at) _ (λ x. ⊤) (λ x. Keeps pool x.1) (any_place (delta table.last at))
+    (λ offset d. bind_all (frame_text labels offset line.locals line.stack pool) _ (λ x. Keeps pool x.1) (λ x. Keeps pool x.1) (frame_keeps labels offset line.locals line.stack pool)
+    (λ text k. some_all _ (λ x. Keeps pool x.1) k))))
+
 pub frame_goes : (line : FrameLine) (code : CodeDraft) → AllIn (frame_added line code) (CodeGoes code)
 unfolding frame_added
 frame_goes line code =
     bind_all (table_begun code.frames code.method.class.pool) _ (λ x. Keeps code.method.class.pool x.1) (CodeGoes code) (table_keeps code.frames code.method.class.pool)
-    (λ table k. when_all _ _ (CodeGoes code) (bind_all (short_place code.labels line.label) _ (λ x. ⊤) (CodeGoes code) (any_place (short_place code.labels line.label))
-    (λ at p. bind_all (delta table.0.last at) _ (λ x. ⊤) (CodeGoes code) (any_place (delta table.0.last at))
-    (λ offset d. bind_all (frame_text code.labels offset line.locals line.stack table.1) _ (λ x. Keeps code.method.class.pool x.1) (CodeGoes code) (from code.method.class.pool table.1 _ k (frame_keeps code.labels offset line.locals line.stack table.1))
-    (λ text l. some_all _ (CodeGoes code) (record { pool = l; this = refl }))))))
+    (λ table k. bind_all (table_grown line code.labels table.0 table.1) _ (λ x. Keeps code.method.class.pool x.1) (CodeGoes code) (from code.method.class.pool table.1 _ k (grown_keeps line code.labels table.0 table.1))
+    (λ grown l. some_all _ (CodeGoes code) (record { pool = l; this = refl })))
 
 pub end_goes : (code : CodeDraft) → AllIn (code_ended code) (λ class. Goes code.method.class class)
 unfolding code_ended

@@ -22,8 +22,8 @@ use Rattle.class_asm.specs.declared.code_draft.MethodDraft.{MethodDraft}
 use Rattle.class_asm.specs.declared.code_draft.CodeDraft.{CodeDraft}
 use Rattle.class_asm.specs.Labels.{Label, is_named, place_of, with_label, labels_of, size, behind}
 use Rattle.class_asm.specs.Code.{resolved, written}
-use Rattle.class_asm.specs.Drafts.{optional_class_needed, code_begun, label_passed, operation_added, handler_added, table_begun, frame_added, with_pool}
-use Rattle.class_asm.specs.Frames.{short_place, delta, frame_text}
+use Rattle.class_asm.specs.Drafts.{optional_class_needed, code_begun, label_passed, operation_added, handler_added, table_begun, table_grown, frame_added, with_pool}
+use Rattle.class_asm.specs.Frames.{short_place}
 use Rattle.class_asm.specs.Laws.{Stands, LabelStands, LabelsStand}
 use Rattle.class_asm.proofs.Sizes.{sizes_stand}
 use Rattle.class_asm.proofs.Keeping.{AllIn, bind_all, when_all, some_all}
@@ -196,10 +196,8 @@ frame_stands : (line : FrameLine) (code : CodeDraft) (rest : List (Option Statem
 unfolding frame_added labels_of
 frame_stands line code rest s =
     bind_all (table_begun code.frames code.method.class.pool) _ (λ x. ⊤) (λ after. Stands after rest) (λ x e. tt)
-    (λ table a. when_all _ _ (λ after. Stands after rest) (bind_all (short_place code.labels line.label) _ (λ x. ⊤) (λ after. Stands after rest) (λ x e. tt)
-    (λ at b. bind_all (delta table.0.last at) _ (λ x. ⊤) (λ after. Stands after rest) (λ x e. tt)
-    (λ offset c. bind_all (frame_text code.labels offset line.locals line.stack table.1) _ (λ x. ⊤) (λ after. Stands after rest) (λ x e. tt)
-    (λ text d. some_all _ (λ after. Stands after rest) (record { front = s.front; labels = s.labels; passed = s.passed; few = s.few }))))))
+    (λ table a. bind_all (table_grown line code.labels table.0 table.1) _ (λ x. ⊤) (λ after. Stands after rest) (λ x e. tt)
+    (λ grown b. some_all _ (λ after. Stands after rest) (record { front = s.front; labels = s.labels; passed = s.passed; few = s.few })))
 
 blank_stands : (code : CodeDraft) (rest : List (Option Statement)) → Stands code (Some statement.Blank ∷ rest) → Stands code rest
 unfolding labels_of

@@ -1,12 +1,10 @@
 -- Classes, methods and code as far as their lines were read.
-use Rattle.std.specs.Prelude.{ℕ, ◌+◌, ◌*◌, ◌^◌, List, [], ◌∷◌, ◌++◌, length, position, Bool, true, false, ◌&&◌, ◌==◌, nat_lt, codes, Option, Some, None, if◌then◌else◌}
+use Rattle.std.specs.Prelude.{ℕ, ◌+◌, ◌*◌, ◌^◌, List, [], ◌∷◌, ◌++◌, length, position, Bool, ◌&&◌, ◌==◌, nat_lt, codes, Option, Some, None, if◌then◌else◌}
 use Rattle.std.specs.Option.{option_map}
 use Rattle.jsa_base.specs.Reading.{◌>>=◌, when}
 use Rattle.jsa_base.specs.Spelling.{u2}
 use Rattle.class_tree.specs.declared.constant_pool.PoolEntry.{PoolEntry}
 use Rattle.class_tree.specs.declared.constant_pool.PoolEntry.TheVariants.{Unusable}
-use Rattle.class_tree.specs.declared.tree.FieldTree.{FieldTree}
-use Rattle.class_tree.specs.declared.tree.MethodTree.{MethodTree}
 use Rattle.class_tree.specs.declared.tree.CodeTree.{CodeTree}
 use Rattle.class_tree.specs.declared.tree.ClassTree.{ClassTree}
 use Rattle.asm_text.specs.declared.statement.Constant.{Constant}
@@ -44,14 +42,20 @@ classes_needed (name ∷ names) pool = do
   others ← classes_needed names first.1
   Some (first.0 ∷ others.0, others.1)
 
--- The class, its superclass, its interfaces. Its version is 52.
-unfoldable pub class_begun : ClassLine → Option ClassDraft
-class_begun line = do
+-- a class of version 52 with these names: its own, that of its superclass, those of its interfaces
+abbrev pub class_named : ClassLine → List PoolEntry → ℕ × ℕ × List ℕ → ClassDraft
+class_named line pool names = record { major = 52; flags = line.flags; pool = pool; this = names.0; sup = names.1; interfaces = names.2; fields = []; methods = [] }
+
+abbrev pub class_in : ClassLine → List PoolEntry → Option ClassDraft
+class_in line pool = do
   few ← when (nat_lt (length line.interfaces) 65536)
-  this ← class_needed line.name (Unusable ∷ [])
+  this ← class_needed line.name pool
   sup ← optional_class_needed line.sup this.1
   interfaces ← classes_needed line.interfaces sup.1
-  Some (record { major = 52; flags = line.flags; pool = interfaces.1; this = this.0; sup = sup.0; interfaces = interfaces.0; fields = []; methods = [] })
+  Some (class_named line interfaces.1 (this.0, sup.0, interfaces.0))
+
+unfoldable pub class_begun : ClassLine → Option ClassDraft
+class_begun line = class_in line (Unusable ∷ [])
 
 abbrev pub tree_of : ClassDraft → ClassTree
 tree_of class = record { major = class.major; flags = class.flags; pool = class.pool; this = class.this; sup = class.sup; interfaces = class.interfaces; fields = class.fields; methods = class.methods }
@@ -75,12 +79,15 @@ field_added line class = do
 
 -- ---- methods (JVMS 4.6)
 
+abbrev pub method_named : MethodLine → ClassDraft → ℕ × ℕ → MethodDraft
+method_named line class names = record { class = class; flags = line.flags; name = names.0; desc = names.1 }
+
 unfoldable pub method_begun : MethodLine → ClassDraft → Option MethodDraft
 method_begun line class = do
   few ← when (has_room class.methods)
   name ← text_needed line.name class.pool
   desc ← text_needed line.desc name.1
-  Some (record { class = record class { pool = desc.1 }; flags = line.flags; name = name.0; desc = desc.0 })
+  Some (method_named line (record class { pool = desc.1 }) (name.0, desc.0))
 
 abbrev pub method_closed : MethodDraft → Option CodeTree → ClassDraft
 method_closed m code = record (m.class) { methods = m.class.methods ++ record { flags = m.flags; name = m.name; desc = m.desc; code = code } ∷ [] }
@@ -125,15 +132,20 @@ unfoldable pub table_begun : Option FrameTable → List PoolEntry → Option (Fr
 table_begun (Some table) pool = Some (table, pool)
 table_begun None pool = text_needed (codes "StackMapTable") pool >>= λ name. Some (record { count = 0; last = None; text = [] }, name.1)
 
--- The number of frames stands in two bytes.
+-- the table with a frame behind the others, whose number stands in two bytes
+unfoldable pub table_grown : FrameLine → List Label → FrameTable → List PoolEntry → Option (FrameTable × List PoolEntry)
+table_grown line labels table pool = do
+  few ← when (nat_lt table.count 65535)
+  place ← short_place labels line.label
+  offset ← delta table.last place
+  text ← frame_text labels offset line.locals line.stack pool
+  Some (record { count = table.count + 1; last = Some place; text = table.text ++ text.0 }, text.1)
+
 unfoldable pub frame_added : FrameLine → CodeDraft → Option CodeDraft
 frame_added line code = do
   table ← table_begun code.frames code.method.class.pool
-  few ← when (nat_lt table.0.count 65535)
-  place ← short_place code.labels line.label
-  offset ← delta table.0.last place
-  text ← frame_text code.labels offset line.locals line.stack table.1
-  Some (record code { method = with_pool code.method text.1; frames = Some (record { count = table.0.count + 1; last = Some place; text = table.0.text ++ text.0 }) })
+  grown ← table_grown line code.labels table.0 table.1
+  Some (record code { method = with_pool code.method grown.1; frames = Some grown.0 })
 
 -- ---- the end of a code
 
@@ -151,7 +163,16 @@ abbrev pub is_short : CodeDraft → Bool
 is_short code = nat_lt (12 + length code.bytes + 8 * length code.handlers + table_size code.frames) (2 ^ 32)
 
 -- A code has an instruction.
+abbrev pub may_end : CodeDraft → Bool
+may_end code = nat_lt 0 (length code.bytes) && is_short code
+
+abbrev pub code_tree : CodeDraft → Option (List ℕ) → CodeTree
+code_tree code content = record { stack = code.stack; locals = code.locals; bytes = code.bytes; handlers = code.handlers; «map» = content }
+
+abbrev pub code_closed : CodeDraft → ClassDraft
+code_closed code = method_closed code.method (Some (code_tree code (option_map table_content code.frames)))
+
 unfoldable pub code_ended : CodeDraft → Option ClassDraft
 code_ended code = do
-  ok ← when (nat_lt 0 (length code.bytes) && is_short code)
-  Some (method_closed code.method (Some (record { stack = code.stack; locals = code.locals; bytes = code.bytes; handlers = code.handlers; «map» = option_map table_content code.frames })))
+  ok ← when (may_end code)
+  Some (code_closed code)

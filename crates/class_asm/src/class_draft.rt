@@ -22,6 +22,13 @@ pub struct ClassDraft {
     pub methods: Items<MethodTree>,
 }
 
+/// Lets go of a class, and hands on a fault.
+pub fn leave_class(_class: ClassDraft, fault: LineFault) -> LineFault
+    ensures { result ≡ fault }
+{
+    fault
+}
+
 /// The index of a class, or 0 where none is named.
 pub fn optional_class(
     alloc: Global,
@@ -56,19 +63,31 @@ fn classes(
     }
 }
 
+// The indices of the names of a class line.
+fn class_names(
+    alloc: Global,
+    line: &ClassLine,
+    pool: &mut PoolBuilder,
+) -> Result<(u16, u16, Items<u16>), LineFault>
+    ensures { Yields (spec.class_named line.now pool.new) result (spec.class_in line.now pool.old) }
+{
+    if line.interfaces.len() > 65535 {
+        return Err(LineFault::Outside);
+    }
+    let this = pool.class(alloc, line.name.as_slice())?;
+    let sup = optional_class(alloc, &line.sup, pool)?;
+    let interfaces = classes(alloc, line.interfaces.as_slice(), pool)?;
+    Ok((this, sup, interfaces))
+}
+
 /// The class of a class line, of version 52. `Outside` comes where the pool has no room for what it needs, or it has more
 /// than 65,535 superinterfaces.
 #[tactic(auto, unfolding(crate::specs::Drafts::class_begun))]
 pub fn begin_class(alloc: Global, line: &ClassLine) -> Result<ClassDraft, LineFault>
     ensures { Yields (λ c. c) result (spec.class_begun line.now) }
 {
-    if line.interfaces.len() > 65535 {
-        return Err(LineFault::Outside);
-    }
     let mut pool = PoolBuilder::new(alloc)?;
-    let this = pool.class(alloc, line.name.as_slice())?;
-    let sup = optional_class(alloc, &line.sup, &mut pool)?;
-    let interfaces = classes(alloc, line.interfaces.as_slice(), &mut pool)?;
+    let (this, sup, interfaces) = class_names(alloc, line, &mut pool)?;
     Ok(ClassDraft {
         major: 52,
         flags: line.flags,

@@ -1,10 +1,10 @@
 //! A method and its code as far as their lines were read.
-ghost use Rattle.std.specs.Prelude.{◌≡◌, ◌<◌, ◌^◌, min, IfOk};
+ghost use Rattle.std.specs.Prelude.{◌≡◌, ◌<◌, ◌^◌, min, IfOk, Some};
 ghost use Rattle.std.specs.Option.{option_map};
 ghost use Rattle.asm_text.specs.Outcome.{Gives, Yields, Does};
 ghost use Rattle.class_asm.specs.Drafts as spec;
 
-use crate::class_draft::{ClassDraft, optional_class};
+use crate::class_draft::{ClassDraft, leave_class, optional_class};
 use crate::frames::{delta, frame_text, put_u2, short_place};
 use crate::labels::Labels;
 use crate::resolving::emit;
@@ -49,9 +49,25 @@ pub struct CodeDraft {
     pub passed: usize,
 }
 
+// The indices of the name and of the descriptor of a method line.
+#[tactic(auto, unfolding(crate::specs::Drafts::method_begun))]
+fn method_names(
+    alloc: Global,
+    line: &MethodLine,
+    class: &mut ClassDraft,
+) -> Result<(u16, u16), LineFault>
+    ensures { Yields (spec.method_named line.now class.new) result (spec.method_begun line.now class.old) }
+{
+    if class.methods.len() >= 65535 {
+        return Err(LineFault::Outside);
+    }
+    let name = class.pool.text(alloc, line.name.as_slice())?;
+    let desc = class.pool.text(alloc, line.desc.as_slice())?;
+    Ok((name, desc))
+}
+
 /// The method of a method line. `Outside` comes where the pool has no room for what it needs, or the class has 65,535
 /// methods.
-#[tactic(auto, unfolding(crate::specs::Drafts::method_begun))]
 pub fn begin_method(
     alloc: Global,
     line: &MethodLine,
@@ -60,17 +76,22 @@ pub fn begin_method(
     ensures { Yields (λ m. m) result (spec.method_begun line.now class) }
 {
     let mut class = class;
-    if class.methods.len() >= 65535 {
-        return Err(LineFault::Outside);
+    match method_names(alloc, line, &mut class) {
+        Ok((name, desc)) => Ok(MethodDraft {
+            class,
+            flags: line.flags,
+            name,
+            desc,
+        }),
+        Err(fault) => Err(leave_class(class, fault)),
     }
-    let name = class.pool.text(alloc, line.name.as_slice())?;
-    let desc = class.pool.text(alloc, line.desc.as_slice())?;
-    Ok(MethodDraft {
-        class,
-        flags: line.flags,
-        name,
-        desc,
-    })
+}
+
+/// Lets go of a method, and hands on a fault.
+pub fn leave_method(_method: MethodDraft, fault: LineFault) -> LineFault
+    ensures { result ≡ fault }
+{
+    fault
 }
 
 /// The class with the method, which has this code.
@@ -104,17 +125,26 @@ pub fn begin_code(
     ensures { Yields (λ c. c) result (spec.code_begun line.now labels method) }
 {
     let mut method = method;
-    method.class.pool.text(alloc, b"Code")?;
-    Ok(CodeDraft {
-        method,
-        stack: line.stack,
-        locals: line.locals,
-        bytes: Items::new(alloc),
-        handlers: Items::new(alloc),
-        frames: None,
-        labels,
-        passed: 0,
-    })
+    match method.class.pool.text(alloc, b"Code") {
+        Ok(_) => Ok(CodeDraft {
+            method,
+            stack: line.stack,
+            locals: line.locals,
+            bytes: Items::new(alloc),
+            handlers: Items::new(alloc),
+            frames: None,
+            labels,
+            passed: 0,
+        }),
+        Err(fault) => Err(leave_method(method, fault)),
+    }
+}
+
+/// Lets go of a code, and hands on a fault.
+pub fn leave_code(_code: CodeDraft, fault: LineFault) -> LineFault
+    ensures { result ≡ fault }
+{
+    fault
 }
 
 // The table of the frames so far, whose name is needed where the first frame stands.
@@ -135,6 +165,36 @@ fn begin_table(
         last: None,
         text: Items::new(alloc),
     })
+}
+
+// Puts the frame of a frame line behind the others.
+#[tactic(auto, unfolding(crate::specs::Drafts::table_grown))]
+fn grow_table(
+    alloc: Global,
+    line: &FrameLine,
+    labels: &Labels,
+    table: &mut FrameTable,
+    pool: &mut PoolBuilder,
+) -> Result<(), LineFault>
+    ensures { Does result (table.new, pool.new) (spec.table_grown line.now labels.now table.old pool.old) }
+{
+    if table.count >= 65535 {
+        return Err(LineFault::Outside);
+    }
+    let place = short_place(labels, &line.label)?;
+    let offset = delta(table.last, place)?;
+    let text = frame_text(
+        alloc,
+        labels,
+        offset,
+        line.locals.as_slice(),
+        line.stack.as_slice(),
+        pool,
+    )?;
+    table.text.append(text)?;
+    table.count += 1;
+    table.last = Some(place);
+    Ok(())
 }
 
 // The content of a StackMapTable (JVMS 4.7.4).
@@ -230,54 +290,25 @@ impl CodeDraft {
         })?;
         Ok(())
     }
-}
 
-/// The code with the frame of a frame line. `Outside` comes where a label has no place or one above 65,535, the frame isn't
-/// behind the one before it, a list has more than 65,535 types, the pool has no room, or the code has 65,535 frames.
-#[tactic(auto, unfolding(crate::specs::Drafts::frame_added))]
-pub fn add_frame(alloc: Global, line: &FrameLine, code: CodeDraft) -> Result<CodeDraft, LineFault>
-    ensures { Yields (λ c. c) result (spec.frame_added line.now code) }
-{
-    let CodeDraft {
-        mut method,
-        stack,
-        locals,
-        bytes,
-        handlers,
-        frames,
-        labels,
-        passed,
-    } = code;
-    let mut table = begin_table(alloc, frames, &mut method.class.pool)?;
-    if table.count >= 65535 {
-        return Err(LineFault::Outside);
+    /// Adds the frame of a frame line. `Outside` comes where a label has no place or one above 65,535, the frame isn't behind
+    /// the one before it, a list has more than 65,535 types, the pool has no room, or the code has 65,535 frames.
+    #[tactic(auto, unfolding(crate::specs::Drafts::frame_added))]
+    pub fn add_frame(&mut self, alloc: Global, line: &FrameLine) -> Result<(), LineFault>
+        ensures { Does result self.new (spec.frame_added line.now self.old) }
+    {
+        let frames = self.frames.take();
+        let mut table = begin_table(alloc, frames, &mut self.method.class.pool)?;
+        grow_table(
+            alloc,
+            line,
+            &self.labels,
+            &mut table,
+            &mut self.method.class.pool,
+        )?;
+        self.frames = Some(table);
+        Ok(())
     }
-    let place = short_place(&labels, &line.label)?;
-    let offset = delta(table.last, place)?;
-    let text = frame_text(
-        alloc,
-        &labels,
-        offset,
-        line.locals.as_slice(),
-        line.stack.as_slice(),
-        &mut method.class.pool,
-    )?;
-    table.text.append(text)?;
-    let table = FrameTable {
-        count: table.count + 1,
-        last: Some(place),
-        text: table.text,
-    };
-    Ok(CodeDraft {
-        method,
-        stack,
-        locals,
-        bytes,
-        handlers,
-        frames: Some(table),
-        labels,
-        passed,
-    })
 }
 
 // The length of a Code attribute stands in four bytes.
@@ -289,32 +320,52 @@ fn is_short(code: &CodeDraft) -> bool
     12 + bytes + 8 * handlers + table_size(&code.frames) < 0x1_0000_0000
 }
 
+// A code has an instruction, and its attribute a length.
+fn may_end(code: &CodeDraft) -> bool
+    ensures { result ≡ spec.may_end code.now }
+{
+    code.bytes.len() != 0 && is_short(code)
+}
+
+// The method of a code, and its tree, which has this StackMapTable.
+fn into_parts(code: CodeDraft, map: Option<Items<u8>>) -> (MethodDraft, CodeTree)
+    ensures { result ≡ (code.method, spec.code_tree code map) }
+{
+    (
+        code.method,
+        CodeTree {
+            stack: code.stack,
+            locals: code.locals,
+            bytes: code.bytes,
+            handlers: code.handlers,
+            map,
+        },
+    )
+}
+
+// The class with the method of a code.
+fn close_code(alloc: Global, code: CodeDraft) -> Result<ClassDraft, LineFault>
+    ensures { Yields (λ c. c) result (Some (spec.code_closed code)) }
+{
+    let mut code = code;
+    match optional_content(alloc, code.frames.take()) {
+        Ok(map) => {
+            let (method, tree) = into_parts(code, map);
+            Ok(close_method(method, Some(tree))?)
+        }
+        Err(_) => Err(leave_code(code, LineFault::Memory)),
+    }
+}
+
 /// The class with the method of a code that ends here. `Outside` comes where it has no instruction, or the Code attribute
 /// would have 2^32 bytes or more.
 #[tactic(auto, unfolding(crate::specs::Drafts::code_ended))]
 pub fn end_code(alloc: Global, code: CodeDraft) -> Result<ClassDraft, LineFault>
     ensures { Yields (λ c. c) result (spec.code_ended code) }
 {
-    if code.bytes.len() == 0 || !is_short(&code) {
-        return Err(LineFault::Outside);
+    if may_end(&code) {
+        close_code(alloc, code)
+    } else {
+        Err(leave_code(code, LineFault::Outside))
     }
-    let CodeDraft {
-        method,
-        stack,
-        locals,
-        bytes,
-        handlers,
-        frames,
-        labels: _,
-        passed: _,
-    } = code;
-    let map = optional_content(alloc, frames)?;
-    let tree = CodeTree {
-        stack,
-        locals,
-        bytes,
-        handlers,
-        map,
-    };
-    Ok(close_method(method, Some(tree))?)
 }

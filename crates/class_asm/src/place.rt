@@ -4,9 +4,10 @@ ghost use Rattle.asm_text.specs.Outcome.{Gives, Yields, Does};
 ghost use Rattle.class_asm.specs.Assembly as spec;
 ghost use Rattle.class_asm.specs.Drafts.{tree_of};
 
-use crate::class_draft::{ClassDraft, begin_class};
+use crate::class_draft::{ClassDraft, begin_class, leave_class};
 use crate::code_draft::{
-    CodeDraft, MethodDraft, add_frame, begin_code, begin_method, close_method, end_code,
+    CodeDraft, MethodDraft, begin_code, begin_method, close_method, end_code, leave_code,
+    leave_method,
 };
 use crate::labels::labels_of;
 use asm_text::{
@@ -32,6 +33,19 @@ pub enum Place {
     Code(CodeDraft),
 }
 
+/// Lets go of a place, and hands on a fault.
+pub fn leave(place: Place, fault: LineFault) -> LineFault
+    ensures { result ≡ fault }
+{
+    match place {
+        Place::Start => fault,
+        Place::Header(class) => leave_class(class, fault),
+        Place::Members(class) => leave_class(class, fault),
+        Place::Method(method) => leave_method(method, fault),
+        Place::Code(code) => leave_code(code, fault),
+    }
+}
+
 fn push_tree(trees: &mut Vec<ClassTree>, class: ClassDraft) -> Result<(), LineFault>
     ensures { Does result trees.new.items (Some (trees.old.items ++ tree_of class ∷ [])) }
 {
@@ -48,7 +62,7 @@ pub fn finish(trees: &mut Vec<ClassTree>, place: Place) -> Result<(), LineFault>
         Place::Header(class) => push_tree(trees, class),
         Place::Members(class) => push_tree(trees, class),
         Place::Method(method) => push_tree(trees, close_method(method, None)?),
-        Place::Code(_) => Err(LineFault::Outside),
+        Place::Code(code) => Err(leave_code(code, LineFault::Outside)),
     }
 }
 
@@ -60,7 +74,7 @@ fn class_of(place: Place) -> Result<ClassDraft, LineFault>
         Place::Members(class) => Ok(class),
         Place::Method(method) => Ok(close_method(method, None)?),
         Place::Start => Err(LineFault::Outside),
-        Place::Code(_) => Err(LineFault::Outside),
+        Place::Code(code) => Err(leave_code(code, LineFault::Outside)),
     }
 }
 
@@ -70,9 +84,9 @@ fn header_of(place: Place) -> Result<ClassDraft, LineFault>
     match place {
         Place::Header(class) => Ok(class),
         Place::Start => Err(LineFault::Outside),
-        Place::Members(_) => Err(LineFault::Outside),
-        Place::Method(_) => Err(LineFault::Outside),
-        Place::Code(_) => Err(LineFault::Outside),
+        Place::Members(class) => Err(leave_class(class, LineFault::Outside)),
+        Place::Method(method) => Err(leave_method(method, LineFault::Outside)),
+        Place::Code(code) => Err(leave_code(code, LineFault::Outside)),
     }
 }
 
@@ -82,9 +96,9 @@ fn method_of(place: Place) -> Result<MethodDraft, LineFault>
     match place {
         Place::Method(method) => Ok(method),
         Place::Start => Err(LineFault::Outside),
-        Place::Header(_) => Err(LineFault::Outside),
-        Place::Members(_) => Err(LineFault::Outside),
-        Place::Code(_) => Err(LineFault::Outside),
+        Place::Header(class) => Err(leave_class(class, LineFault::Outside)),
+        Place::Members(class) => Err(leave_class(class, LineFault::Outside)),
+        Place::Code(code) => Err(leave_code(code, LineFault::Outside)),
     }
 }
 
@@ -94,9 +108,9 @@ fn code_of(place: Place) -> Result<CodeDraft, LineFault>
     match place {
         Place::Code(code) => Ok(code),
         Place::Start => Err(LineFault::Outside),
-        Place::Header(_) => Err(LineFault::Outside),
-        Place::Members(_) => Err(LineFault::Outside),
-        Place::Method(_) => Err(LineFault::Outside),
+        Place::Header(class) => Err(leave_class(class, LineFault::Outside)),
+        Place::Members(class) => Err(leave_class(class, LineFault::Outside)),
+        Place::Method(method) => Err(leave_method(method, LineFault::Outside)),
     }
 }
 
@@ -125,8 +139,10 @@ fn field_line(alloc: Global, line: &FieldLine, place: Place) -> Result<Place, Li
     ensures { Yields (λ p. p) result (spec.after_field line.now place) }
 {
     let mut class = class_of(place)?;
-    class.add_field(alloc, line)?;
-    Ok(Place::Members(class))
+    match class.add_field(alloc, line) {
+        Ok(()) => Ok(Place::Members(class)),
+        Err(fault) => Err(leave_class(class, fault)),
+    }
 }
 
 fn method_line(alloc: Global, line: &MethodLine, place: Place) -> Result<Place, LineFault>
@@ -146,41 +162,50 @@ fn code_line(
     ensures { Yields (λ p. p) result (spec.after_code rest.now line.now place) }
 {
     let method = method_of(place)?;
-    let labels = labels_of(alloc, rest)?;
-    let code = begin_code(alloc, line, labels, method)?;
-    Ok(Place::Code(code))
+    match labels_of(alloc, rest) {
+        Ok(labels) => Ok(Place::Code(begin_code(alloc, line, labels, method)?)),
+        Err(fault) => Err(leave_method(method, fault)),
+    }
 }
 
 fn label_line(name: &Items<u8>, place: Place) -> Result<Place, LineFault>
     ensures { Yields (λ p. p) result (spec.after_label name.now place) }
 {
     let mut code = code_of(place)?;
-    code.pass_label(name)?;
-    Ok(Place::Code(code))
+    match code.pass_label(name) {
+        Ok(()) => Ok(Place::Code(code)),
+        Err(fault) => Err(leave_code(code, fault)),
+    }
 }
 
 fn operation_line(alloc: Global, operation: &Operation, place: Place) -> Result<Place, LineFault>
     ensures { Yields (λ p. p) result (spec.after_operation operation.now place) }
 {
     let mut code = code_of(place)?;
-    code.add_operation(alloc, operation)?;
-    Ok(Place::Code(code))
+    match code.add_operation(alloc, operation) {
+        Ok(()) => Ok(Place::Code(code)),
+        Err(fault) => Err(leave_code(code, fault)),
+    }
 }
 
 fn catch_line(alloc: Global, line: &CatchLine, place: Place) -> Result<Place, LineFault>
     ensures { Yields (λ p. p) result (spec.after_catch line.now place) }
 {
     let mut code = code_of(place)?;
-    code.add_handler(alloc, line)?;
-    Ok(Place::Code(code))
+    match code.add_handler(alloc, line) {
+        Ok(()) => Ok(Place::Code(code)),
+        Err(fault) => Err(leave_code(code, fault)),
+    }
 }
 
 fn frame_line(alloc: Global, line: &FrameLine, place: Place) -> Result<Place, LineFault>
     ensures { Yields (λ p. p) result (spec.after_frame line.now place) }
 {
-    let code = code_of(place)?;
-    let code = add_frame(alloc, line, code)?;
-    Ok(Place::Code(code))
+    let mut code = code_of(place)?;
+    match code.add_frame(alloc, line) {
+        Ok(()) => Ok(Place::Code(code)),
+        Err(fault) => Err(leave_code(code, fault)),
+    }
 }
 
 fn end_line(alloc: Global, place: Place) -> Result<Place, LineFault>

@@ -5,7 +5,7 @@ ghost use Rattle.class_asm.specs.Assembly as spec;
 ghost use Rattle.class_asm.specs.declared.place.Place.TheVariants as places;
 
 use crate::fault::AsmFault;
-use crate::place::{Place, finish, step};
+use crate::place::{Place, finish, leave, step};
 use asm_text::{LineFault, Statement, statements};
 use class_tree::ClassTree;
 use std::alloc::Global;
@@ -22,7 +22,7 @@ fn step_line(
 {
     match line {
         Some(statement) => step(alloc, rest, statement, place, trees),
-        None => Err(LineFault::Outside),
+        None => Err(leave(place, LineFault::Outside)),
     }
 }
 
