@@ -1,31 +1,6 @@
 //! The program: it hands the words of the process to `run_command`, and ends with the status of its answer.
 #![tactic(auto)]
 
-#[cfg(test)]
-mod archive_tests;
-#[cfg(test)]
-mod asm_tests;
-#[cfg(test)]
-mod bench;
-#[cfg(test)]
-mod calls;
-#[cfg(test)]
-mod class_list_tests;
-#[cfg(test)]
-mod hello_tests;
-#[cfg(test)]
-mod home_tests;
-#[cfg(test)]
-mod lines_tests;
-#[cfg(test)]
-mod looks;
-#[cfg(test)]
-mod test_classes;
-#[cfg(test)]
-mod tests;
-#[cfg(test)]
-mod words_tests;
-
 use jsa_command::{Ended, run_command, status, tell};
 use jsa_files::{DiskFiles, StdSink};
 use std::alloc::AllocError;

@@ -1,0 +1,171 @@
+// Whole runs over a store and sinks in memory, without a home.
+use crate::failure_rows::FAILURES;
+use crate::rows::wrong_rows;
+use std::test::Fail;
+
+static RUNS: &str = "\
+put app/Main.class SUM
+run -Xshare:auto -cp app Main = 0|42~|
+reads = read app/Main.class
+put app/Main.class SHIFTS
+run -Xshare:auto -cp app Main = 0|2147483647~|
+put app/Main.class DIVIDES
+run -Xshare:auto -cp app Main = 9||unsupported Main~
+new
+run -Xshare:auto -cp app Main = 4||no main in Main~
+run -Xshare:auto -cp app p.Main = 4||no main in p/Main~
+run -Xshare:auto -cp  Main = 2||usage~
+reads = read
+put a/b/p/q/Main.class COMPILED
+run -Xshare:auto -cp a/b p.q.Main = 0|42~-1~|";
+
+#[test]
+fn runs_and_what_they_tell(rt: HostRuntime) -> Result<(), Fail> {
+    assert_eq!(rt; wrong_rows(rt.alloc(), RUNS)?.as_str(), "");
+    Ok(())
+}
+
+// The compiled class ends in its ninth turn.
+static LIMITS: &str = "\
+put app/Main.class COMPILED
+run -Xshare:auto -cp app --steps=0 Main = 8||stopped after 0 steps~
+run -Xshare:auto -cp app --steps=4 Main = 8||stopped after 4 steps~
+run -Xshare:auto -cp app --steps=5 Main = 8|42~|stopped after 5 steps~
+run -Xshare:auto -cp app --steps=7 Main = 8|42~-1~|stopped after 7 steps~
+run -Xshare:auto -cp app --steps=8 Main = 8|42~-1~|stopped after 8 steps~
+run -Xshare:auto -cp app --steps=9 Main = 0|42~-1~|
+run -Xshare:auto -cp app --steps=10 Main = 0|42~-1~|
+run -Xshare:auto -cp app --steps=0x8 Main = 8|42~-1~|stopped after 8 steps~
+run -Xshare:auto -cp app --steps=0x9 Main = 0|42~-1~|
+run -Xshare:auto -cp app --steps=00000000000000000004 Main = 8||stopped after 4 steps~
+run -Xshare:auto -cp app --steps=00000000000000000009 Main = 0|42~-1~|
+run -Xshare:auto -cp app --steps=0x0000000000000009 Main = 0|42~-1~|
+run -Xshare:auto -cp app --steps=18446744073709551615 Main = 0|42~-1~|
+run -Xshare:auto -cp app --steps=0xffffffffffffffff Main = 0|42~-1~|
+run -Xshare:auto -cp app --steps=0xFFFFFFFFFFFFFFFF Main = 0|42~-1~|
+put app/Main.class SUM
+run -Xshare:auto -cp app --steps=8 Main = 8|42~|stopped after 8 steps~
+run -Xshare:auto -cp app --steps=9 Main = 0|42~|";
+
+#[test]
+fn a_run_stops_at_its_limit_of_turns(rt: HostRuntime) -> Result<(), Fail> {
+    assert_eq!(rt; wrong_rows(rt.alloc(), LIMITS)?.as_str(), "");
+    Ok(())
+}
+
+// Words outside the grammar.
+static FAULTY_WORDS: &str = "\
+put app/Main.class COMPILED
+run & reads = 2||usage~read
+run -cp & reads = 2||usage~read
+run -cp app & reads = 2||usage~read
+run app Main & reads = 2||usage~read
+run -cp app Main Main & reads = 2||usage~read
+run -cp app Main --steps=9 & reads = 2||usage~read
+run -cp --steps=9 app Main & reads = 2||usage~read
+run -cp app --steps=9 & reads = 2||usage~read
+run -cp app --steps=9 Main Main & reads = 2||usage~read
+run -Xshare:auto -cp app --steps=9 --steps=9 Main & reads = 2||usage~read
+run -cp app --steps Main & reads = 2||usage~read
+run -cp app --steps 9 Main & reads = 2||usage~read
+run -cp app --step=9 Main & reads = 2||usage~read
+run -cp app -steps=9 Main & reads = 2||usage~read
+run -cp app --steps= Main & reads = 2||usage~read
+run -cp app --steps=x Main & reads = 2||usage~read
+run -cp app --steps=9x Main & reads = 2||usage~read
+run -cp app --steps=-9 Main & reads = 2||usage~read
+run -cp app --steps=+9 Main & reads = 2||usage~read
+run -cp app --steps=9.0 Main & reads = 2||usage~read
+run -cp app --steps=1_000 Main & reads = 2||usage~read
+run -cp app --steps=\u{661} Main & reads = 2||usage~read
+run -cp app --steps=0x Main & reads = 2||usage~read
+run -cp app --steps=0X9 Main & reads = 2||usage~read
+run -cp app --steps=x9 Main & reads = 2||usage~read
+run -cp app --steps=0xg Main & reads = 2||usage~read
+run -cp app --steps=0x+9 Main & reads = 2||usage~read
+run -cp app --steps=18446744073709551616 Main & reads = 2||usage~read
+run -cp app --steps=99999999999999999999 Main & reads = 2||usage~read
+run -cp app --steps=000000000000000000009 Main & reads = 2||usage~read
+run -cp app --steps=0x10000000000000000 Main & reads = 2||usage~read
+run -cp app --steps=0x00000000000000009 Main & reads = 2||usage~read
+run -Xshare:auto -cp app -cp app Main & reads = 2||usage~read
+run -Xshare:auto -classpath app Main & reads = 2||usage~read
+run -Xshare:maybe -cp app Main & reads = 2||usage~read
+run -Xshare:auto Main & reads = 2||usage~read
+run -Xshare:auto -Xshare:on -cp app Main & reads = 2||usage~read
+run -Xshare:on -cp app Main -XX:SharedArchiveFile=a & reads = 2||usage~read
+run -XX:SharedArchiveFile= -cp app Main & reads = 2||usage~read
+run -XX:SharedArchiveFile=a:b -cp app Main & reads = 2||usage~read
+run -XX:SharedArchiveFile=a.class -cp app Main & reads = 2||usage~read
+run -XX:SharedArchiveFile=a -XX:SharedArchiveFile=a -cp app Main & reads = 2||usage~read
+run -XX:SharedArchiveFile=a -Xshare:on Main & reads = 2||usage~read
+run -XX:SharedClassListFile=l -cp app Main & reads = 2||usage~read
+run -Xshare:dump -XX:SharedArchiveFile=a -cp app & reads = 2||usage~read
+run -Xshare:dump -XX:SharedClassListFile=l -cp app & reads = 2||usage~read
+run -Xshare:dump -XX:SharedClassListFile=l -XX:SharedArchiveFile=a & reads = 2||usage~read
+run -Xshare:dump -XX:SharedClassListFile=l -XX:SharedArchiveFile=a -cp app Main & reads = 2||usage~read
+run -Xshare:dump -XX:SharedClassListFile=l.class -XX:SharedArchiveFile=a -cp app & reads = 2||usage~read
+run -Xshare:dump -XX:SharedClassListFile=l -XX:SharedArchiveFile=app/Main.class -cp app & reads = 2||usage~read
+run -Xshare:dump -XX:SharedClassListFile=l -XX:SharedArchiveFile=a --steps=9 -cp app & reads = 2||usage~read
+run --home= -cp app Main & reads = 2||usage~read
+run --home=h -Xshare:auto -cp app Main & reads = 2||usage~read
+run -XX:DumpLoadedClassList= -cp app Main & reads = 2||usage~read
+run -XX:DumpLoadedClassList=l -Xshare:auto -cp app Main & reads = 2||usage~read
+run --make-home & reads = 2||usage~read
+run --make-home h Main & reads = 2||usage~read
+run -cp * Main & reads = 2||usage~read
+run -Xshare:auto -cp a:b Main & reads = 2||usage~read
+run -cp app: Main & reads = 2||usage~read
+run -cp app.jar Main & reads = 2||usage~read
+run -cp .zip Main & reads = 2||usage~read
+run -Xshare:auto -cp app Main. & reads = 2||usage~read
+run -Xshare:auto -cp app .Main & reads = 2||usage~read
+run -Xshare:auto -cp app p..Main & reads = 2||usage~read
+run -Xshare:auto -cp app p/Main & reads = 2||usage~read
+run -Xshare:auto -cp app Ma-in & reads = 2||usage~read
+run -Xshare:auto -cp app Ma\u{e9}n & reads = 2||usage~read";
+
+#[test]
+fn faulty_words_refuse_and_read_nothing(rt: HostRuntime) -> Result<(), Fail> {
+    assert_eq!(rt; wrong_rows(rt.alloc(), FAULTY_WORDS)?.as_str(), "");
+    Ok(())
+}
+
+#[test]
+fn each_failure_of_the_outside_is_told_and_loses_nothing(rt: HostRuntime) -> Result<(), Fail> {
+    assert_eq!(rt; wrong_rows(rt.alloc(), FAILURES)?.as_str(), "");
+    Ok(())
+}
+
+// Files that are as large as they may be, and larger ones.
+static LARGE: &str = "\
+large app/Main.class 1
+run -Xshare:auto -cp app Main = 13||limit FileSize 67108864~
+large app/Main.class 0
+run -Xshare:auto -cp app Main = 9||unsupported Main~
+new
+put app/Main.class SUM
+text list.txt # the classes^~Main of the example^~Main~~@other
+large list.txt 1
+run @dump = 13||limit FileSize 67108864~
+new
+put app/Main.class SUM
+text list.txt # the classes^~Main of the example^~Main~~@other
+large app/Other.class 1
+run @dump = 13||limit FileSize 67108864~
+new
+put app/Main.class SUM
+text list.txt # the classes^~Main of the example^~Main~~@other
+large a.jsa 1
+run @from = 13||limit FileSize 67108864~
+new
+put app/Main.class SUM
+text list.txt # the classes^~Main of the example^~Main~~@other
+large app/Other.class 1
+run @on = 13||limit FileSize 67108864~";
+
+#[test]
+fn a_file_above_the_limit_is_told(rt: HostRuntime) -> Result<(), Fail> {
+    assert_eq!(rt; wrong_rows(rt.alloc(), LARGE)?.as_str(), "");
+    Ok(())
+}

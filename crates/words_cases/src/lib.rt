@@ -1,0 +1,24 @@
+//! What the words of commands ask for, the lines of their ends and the names of class lists, written by hand; and that the
+//! class of a compiled program and that of its text say the same.
+#![tactic(auto)]
+
+#[cfg(test)]
+mod asked;
+#[cfg(test)]
+mod ends;
+#[cfg(test)]
+mod hello_tests;
+#[cfg(test)]
+mod line_tests;
+#[cfg(test)]
+mod list_tests;
+#[cfg(test)]
+mod lists;
+#[cfg(test)]
+mod rows;
+#[cfg(test)]
+mod said;
+#[cfg(test)]
+mod trees;
+#[cfg(test)]
+mod word_tests;
