@@ -129,19 +129,18 @@ fn bytes_word(bytes: &[u8]) -> &'static str {
     }
 }
 
+fn say_same(alloc: Global, bytes: &[u8], said: &mut String) -> Result<(), AllocError> {
+    said.push_str(bytes_word(bytes))?;
+    said.push_str(", ")?;
+    say_answer(alloc, &write_header(&HEADER), &read_header(bytes), said)
+}
+
 fn say_bytes(alloc: Global, said: &mut String) -> Result<(), AllocError> {
     if !are_words(BYTES) {
         return said.push_str("no words");
     }
     let bytes = bytes_of(alloc, BYTES)?;
-    said.push_str(bytes_word(bytes.as_slice()))?;
-    said.push_str(", ")?;
-    say_answer(
-        alloc,
-        &write_header(&HEADER),
-        &read_header(bytes.as_slice()),
-        said,
-    )
+    say_same(alloc, bytes.as_slice(), said)
 }
 
 fn say_longer(alloc: Global, said: &mut String) -> Result<(), AllocError> {
@@ -177,12 +176,7 @@ fn say_zeros(alloc: Global, said: &mut String) -> Result<(), AllocError> {
 }
 
 // A call with a number of its own.
-fn say_single(
-    alloc: Global,
-    verb: &str,
-    words: &str,
-    said: &mut String,
-) -> Result<(), AllocError> {
+fn say_single(alloc: Global, verb: &str, words: &str, said: &mut String) -> Result<(), AllocError> {
     match verb {
         "bytes" => say_bytes(alloc, said),
         "longer" => say_longer(alloc, said),
@@ -194,12 +188,7 @@ fn say_single(
 }
 
 // A call at a place of the header.
-fn say_place(
-    alloc: Global,
-    verb: &str,
-    place: usize,
-    said: &mut String,
-) -> Result<(), AllocError> {
+fn say_place(alloc: Global, verb: &str, place: usize, said: &mut String) -> Result<(), AllocError> {
     if 256 < place {
         return said.push_str("no place");
     }

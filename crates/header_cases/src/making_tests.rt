@@ -56,11 +56,7 @@ fn say_folder(alloc: Global, folder: &Folder, said: &mut String) -> Result<(), A
     say_files(alloc, folder.files.as_slice(), said)
 }
 
-fn say_option(
-    alloc: Global,
-    folder: &Option<Folder>,
-    said: &mut String,
-) -> Result<(), AllocError> {
+fn say_option(alloc: Global, folder: &Option<Folder>, said: &mut String) -> Result<(), AllocError> {
     match folder {
         Some(folder) => say_folder(alloc, folder, said),
         None => Ok(()),
