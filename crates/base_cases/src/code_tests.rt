@@ -1,8 +1,8 @@
-// The table of opcodes as other crates expand it, and what stands at a place of small codes.
-use crate::listing_tests::{answer, table_rows};
-use crate::rows::{compare, first_word, parts, say_number};
+// A code that holds each instruction, the table of opcodes as other crates expand it, and what stands at a place of small codes.
+use crate::listing::{answer, say_code, table_rows};
+use crate::rows::{first_word, say_number, wrong_rows};
 use crate::test_bytes::{byte_of, is_byte};
-use jsa_ops::{Instr, OpFault, form_of, write};
+use jsa_ops::{Instr, OpFault, answers_are_exact, behind_is_unread, cut_goes_on, form_of, write};
 use std::alloc::{AllocError, Global};
 use std::test::Fail;
 
@@ -163,9 +163,10 @@ fn say_at(alloc: Global, words: &str, said: &mut String) -> Result<(), AllocErro
     }
 }
 
-fn say(alloc: Global, call: &str, said: &mut String) -> Result<(), AllocError> {
+pub fn say(alloc: Global, call: &str, said: &mut String) -> Result<(), AllocError> {
     let (verb, words) = first_word(call);
     match verb {
+        "code" => say_code(alloc, words, said),
         "at" => say_at(alloc, words, said),
         "table" => say_table(alloc, said),
         "write" => say_bipush(alloc, said),
@@ -175,24 +176,12 @@ fn say(alloc: Global, call: &str, said: &mut String) -> Result<(), AllocError> {
     }
 }
 
-fn try_row(alloc: Global, row: &str, wrong: &mut String) -> Result<(), AllocError> {
-    let (call, _) = parts(row);
-    let mut said = String::new(alloc);
-    say(alloc, call, &mut said)?;
-    compare(row, said.as_str(), wrong)
-}
-
-fn wrong_rows(alloc: Global, rows: &str) -> Result<String, AllocError> {
-    let mut wrong = String::new(alloc);
-    for row in rows.lines() {
-        try_row(alloc, row, &mut wrong)?;
-    }
-    Ok(wrong)
-}
-
-// Each opcode has a row; bipush both ways; other bytes name no instruction, of which those behind wide that do are the loads and
+// A code is read as javap reads it, is cut within each instruction, and is written again; each opcode has a row; bipush both
+// ways; other bytes name no instruction, of which those behind wide that do are the loads and
 // stores with a written local, ret and iinc; and switches at place 3, which have no padding.
-static ROWS: &str = "table all = 202 202 54
+static ROWS: &str = "code read = as javap reads it
+code again = as javap reads it
+table all = 202 202 54
 at 0 10 80 = Byte(16, -128) to 2
 at 0 ff = BadOpcode(255)
 at 0 11 01 = Cut
@@ -221,9 +210,10 @@ at 3 00 00 00 ab 00 00 00 00 00 00 00 02 00 00 00 07 00 00 00 00 00 00 00 07 00 
 at 3 00 00 00 ab 00 00 00 00 00 00 00 02 ff ff ff ff 00 00 00 00 00 00 00 00 00 00 00 00 = LookupSwitch(171, 0, [255, 255, 255, 255, 0, 0, 0, 0, 0, 0, 0, 0, 0, 0, 0, 0]) to 28";
 
 #[test]
-fn the_table_has_a_row_for_each_opcode_and_each_small_code_its_answer(
-    rt: HostRuntime,
-) -> Result<(), Fail> {
-    assert_eq!(rt; wrong_rows(rt.alloc(), ROWS)?.as_str(), "");
+fn codes_are_read_and_written_as_the_standard_has_them(rt: HostRuntime) -> Result<(), Fail> {
+    answers_are_exact();
+    behind_is_unread();
+    cut_goes_on();
+    assert_eq!(rt; wrong_rows(rt.alloc(), "codes", ROWS)?.as_str(), "");
     Ok(())
 }

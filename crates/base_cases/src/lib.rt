@@ -5,7 +5,7 @@
 #[cfg(test)]
 mod code_tests;
 #[cfg(test)]
-mod listing_tests;
+mod listing;
 #[cfg(test)]
 mod loader_tests;
 #[cfg(test)]

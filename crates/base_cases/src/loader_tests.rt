@@ -1,5 +1,5 @@
 // What loaders find in small stores, how many folders there may be, and which classes share a package.
-use crate::rows::{compare, first_word, parts, say_number, say_text, word_of};
+use crate::rows::{first_word, say_number, say_text, word_of, wrong_rows};
 use crate::test_bytes::{are_words, bytes_of};
 use jsa_files::{FilesFault, MemoryFiles, Names};
 use loader_rules::{Found, Loader, Paths, find, same_package};
@@ -172,7 +172,7 @@ fn package_word(words: &str) -> &'static str {
     }
 }
 
-fn say(alloc: Global, call: &str, said: &mut String) -> Result<(), AllocError> {
+pub fn say(alloc: Global, call: &str, said: &mut String) -> Result<(), AllocError> {
     let (verb, words) = first_word(call);
     match verb {
         "find" | "reads" | "third-fails" => say_store(alloc, verb, words, said),
@@ -180,21 +180,6 @@ fn say(alloc: Global, call: &str, said: &mut String) -> Result<(), AllocError> {
         "package" => said.push_str(package_word(words)),
         _ => said.push_str("no call"),
     }
-}
-
-fn try_row(alloc: Global, row: &str, wrong: &mut String) -> Result<(), AllocError> {
-    let (call, _) = parts(row);
-    let mut said = String::new(alloc);
-    say(alloc, call, &mut said)?;
-    compare(row, said.as_str(), wrong)
-}
-
-fn wrong_rows(alloc: Global, rows: &str) -> Result<String, AllocError> {
-    let mut wrong = String::new(alloc);
-    for row in rows.lines() {
-        try_row(alloc, row, &mut wrong)?;
-    }
-    Ok(wrong)
 }
 
 // Each name is found in the first folder that is asked and has it; a name that no path can have (no bytes, bytes that are no
@@ -250,6 +235,6 @@ package A app p/A app = no";
 fn loaders_find_files_in_their_order_and_have_packages_of_their_own(
     rt: HostRuntime,
 ) -> Result<(), Fail> {
-    assert_eq!(rt; wrong_rows(rt.alloc(), ROWS)?.as_str(), "");
+    assert_eq!(rt; wrong_rows(rt.alloc(), "loaders", ROWS)?.as_str(), "");
     Ok(())
 }

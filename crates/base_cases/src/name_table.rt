@@ -1,180 +1,194 @@
-// A table for the tests. A line is a test, whether its bytes pass, and the bytes in words: after a backslash the
-// hexadecimal digits of bytes between dots, after `N*` a text N times, else a text.
+// A table for the tests: calls with what they answer. Bytes stand in words: after a backslash the hexadecimal digits of bytes
+// between dots, after `N*` a text N times, else a text.
 
-/// Texts, names and descriptors on both sides of each rule.
-pub static TABLE: &str = "text yes
-text yes \\01
-text yes \\7f
-text no \\00
-text no A \\00
-text no \\80
-text no \\bf A
-text yes \\c0.80
-text no \\c0
-text no \\c0.81
-text no \\c0.bf
-text no \\c1.80
-text no \\c1.bf
-text yes \\c2.80
-text yes \\df.bf
-text no \\c2
-text no \\c2.7f
-text no \\c2.c0
-text no \\c2.41
-text no \\e0.80.80
-text no \\e0.9f.bf
-text yes \\e0.a0.80
-text yes \\e0.bf.bf
-text no \\e0.a0.7f
-text no \\e0.a0.c0
-text no \\e0.a0
-text no \\e0
-text yes \\e1.80.80
-text no \\e1.7f.80
-text no \\e1.c0.80
-text no \\e1.80.7f
-text no \\e1.80
-text no \\e1.80 A
-text yes \\ed.a0.80
-text yes \\ed.bf.bf
-text yes \\ed.a0.80.ed.b0.80
-text yes \\ed.b0.80.ed.a0.80
-text yes \\ef.bf.bf
-text no \\f0.90.80.80
-text no \\f0.9f.98.80
-text no \\f4.8f.bf.bf
-text no \\f5
-text no \\ff
-text no A \\fe
-text yes java/lang/String \\c3.a9 \\e2.82.ac
-class yes A
-class yes java/lang/Object
-class yes a<b>)c
-class no
-class no /
-class no /A
-class no A/
-class no a//B
-class no a.B
-class no a;B
-class no [A
-class no a[
-class yes \\c3.a9
-member yes value
-member yes <clinit>
-member yes a)b
-member no
-member no a.b
-member no a;b
-member no a[b
-member no a/b
-named yes run
-named yes <init>
-named no <clinit>
-named no <init
-named no <init>x
-named no a<b
-named no a>b
-named no a/b
-named no
-field yes B
-field yes C
-field yes D
-field yes F
-field yes I
-field yes J
-field yes S
-field yes Z
-field no
-field no V
-field no [V
-field no b
-field no BB
-field no L
-field no L;
-field no [L;
-field no LA
-field no LA;;
-field no LA;B
-field no Lp//K;
-field no L/K;
-field no Lp/;
-field no Lp.K;
-field no L[I;
-field yes Lp/K;
-field yes La)(b;
-field no [
-field no [[
-field yes [I
-field yes [[Lp/K;
-field no [II
-field yes 255*[ I
-field no 256*[ I
-field yes 255*[ Lp/K;
-field no 256*[ Lp/K;
-field no 256*[
-field no I [
-method yes ()V
-method yes ()I
-method yes ()[[Lp/K;
-method yes (BCDFIJSZ)Z
-method yes (Ljava/lang/String;I)Lp/K;
-method yes (La)V;)La)V;
-method no
-method no V
-method no ()
-method no (
-method no )V
-method no (V)V
-method no (IV)V
-method no ([V)V
-method no (I
-method no (IV
-method no I)V
-method no (I)VV
-method no (I)II
-method no (I)V)
-method no ((I)V
-method no (L;)V
-method no (Lp//K;)V
-method no (LK)V
-method no ([)V
-method no ()[
-method no (I,I)V
-method no ()[V
-method yes ( 255*I )V
-method no ( 256*I )V
-method yes ( 127*J I)V
-method no ( 127*J II)V
-method no ( 128*J )V
-method no ( 128*D )V
-method yes ( 127*D Lp/K;)V
-method yes ( 255*[J )V
-method yes ( 255*[ I)V
-method no ( 256*[ I)V
-method no () 256*[ I
-path yes A
-path yes p/K$1
-path no
-path no /K
-path no p/
-path no p//K
-path no p.K
-path no p;K
-path no [I
-path no \\c0.80
-path no A \\c0.80
-path no \\00
-path yes \\c3.a9
-path yes \\ed.a0.bd.ed.b8.80
-path no \\ed.a0.bd
-path no \\ed.b8.80
-path no \\ed.b8.80.ed.a0.bd
-path no \\ed.a0.bd.ed.a0.bd.ed.b8.80
-path no \\ed.a0.bd A
-path no A \\ed.b8.80
-path no \\ed.a0.bd.ed.b8.80.ed.b8.80
-path no \\f0.9f.98.80
-path no p/..
-path no ..
-path no \\c0";
+/// A long takes two slots; a bracket is no type; each form spells a unit; and a path is a folder, a name and a suffix. Below
+/// these texts, names and descriptors on both sides of each rule.
+pub static ROWS: &str = "method slots (IJ[Ljava/lang/String;)V = 4
+method result (IJ[Ljava/lang/String;)V = none
+method 0 (IJ[Ljava/lang/String;)V = I
+method 1 (IJ[Ljava/lang/String;)V = J
+method 2 (IJ[Ljava/lang/String;)V = array 1 Ljava/lang/String;
+method 3 (IJ[Ljava/lang/String;)V = none
+field type [ = none
+field type Lp/K; = class p/K
+units of \\c3.a9 = e9;
+units of \\41.c0.80.df.bf.e0.a0.80.ed.a0.bd.ef.bf.bf = 41;0;7ff;800;d83d;ffff;
+path a p/K = a/p/K.class
+path a p/../K = none
+path  \\70.2f.ed.a0.bd.ed.b8.80.c3.a9 = /p/\u{1F600}\u{E9}.class
+is-text = yes
+is-text \\01 = yes
+is-text \\7f = yes
+is-text \\00 = no
+is-text A \\00 = no
+is-text \\80 = no
+is-text \\bf A = no
+is-text \\c0.80 = yes
+is-text \\c0 = no
+is-text \\c0.81 = no
+is-text \\c0.bf = no
+is-text \\c1.80 = no
+is-text \\c1.bf = no
+is-text \\c2.80 = yes
+is-text \\df.bf = yes
+is-text \\c2 = no
+is-text \\c2.7f = no
+is-text \\c2.c0 = no
+is-text \\c2.41 = no
+is-text \\e0.80.80 = no
+is-text \\e0.9f.bf = no
+is-text \\e0.a0.80 = yes
+is-text \\e0.bf.bf = yes
+is-text \\e0.a0.7f = no
+is-text \\e0.a0.c0 = no
+is-text \\e0.a0 = no
+is-text \\e0 = no
+is-text \\e1.80.80 = yes
+is-text \\e1.7f.80 = no
+is-text \\e1.c0.80 = no
+is-text \\e1.80.7f = no
+is-text \\e1.80 = no
+is-text \\e1.80 A = no
+is-text \\ed.a0.80 = yes
+is-text \\ed.bf.bf = yes
+is-text \\ed.a0.80.ed.b0.80 = yes
+is-text \\ed.b0.80.ed.a0.80 = yes
+is-text \\ef.bf.bf = yes
+is-text \\f0.90.80.80 = no
+is-text \\f0.9f.98.80 = no
+is-text \\f4.8f.bf.bf = no
+is-text \\f5 = no
+is-text \\ff = no
+is-text A \\fe = no
+is-text java/lang/String \\c3.a9 \\e2.82.ac = yes
+is-class A = yes
+is-class java/lang/Object = yes
+is-class a<b>)c = yes
+is-class = no
+is-class / = no
+is-class /A = no
+is-class A/ = no
+is-class a//B = no
+is-class a.B = no
+is-class a;B = no
+is-class [A = no
+is-class a[ = no
+is-class \\c3.a9 = yes
+is-member value = yes
+is-member <clinit> = yes
+is-member a)b = yes
+is-member = no
+is-member a.b = no
+is-member a;b = no
+is-member a[b = no
+is-member a/b = no
+is-named run = yes
+is-named <init> = yes
+is-named <clinit> = no
+is-named <init = no
+is-named <init>x = no
+is-named a<b = no
+is-named a>b = no
+is-named a/b = no
+is-named = no
+is-field B = yes
+is-field C = yes
+is-field D = yes
+is-field F = yes
+is-field I = yes
+is-field J = yes
+is-field S = yes
+is-field Z = yes
+is-field = no
+is-field V = no
+is-field [V = no
+is-field b = no
+is-field BB = no
+is-field L = no
+is-field L; = no
+is-field [L; = no
+is-field LA = no
+is-field LA;; = no
+is-field LA;B = no
+is-field Lp//K; = no
+is-field L/K; = no
+is-field Lp/; = no
+is-field Lp.K; = no
+is-field L[I; = no
+is-field Lp/K; = yes
+is-field La)(b; = yes
+is-field [ = no
+is-field [[ = no
+is-field [I = yes
+is-field [[Lp/K; = yes
+is-field [II = no
+is-field 255*[ I = yes
+is-field 256*[ I = no
+is-field 255*[ Lp/K; = yes
+is-field 256*[ Lp/K; = no
+is-field 256*[ = no
+is-field I [ = no
+is-method ()V = yes
+is-method ()I = yes
+is-method ()[[Lp/K; = yes
+is-method (BCDFIJSZ)Z = yes
+is-method (Ljava/lang/String;I)Lp/K; = yes
+is-method (La)V;)La)V; = yes
+is-method = no
+is-method V = no
+is-method () = no
+is-method ( = no
+is-method )V = no
+is-method (V)V = no
+is-method (IV)V = no
+is-method ([V)V = no
+is-method (I = no
+is-method (IV = no
+is-method I)V = no
+is-method (I)VV = no
+is-method (I)II = no
+is-method (I)V) = no
+is-method ((I)V = no
+is-method (L;)V = no
+is-method (Lp//K;)V = no
+is-method (LK)V = no
+is-method ([)V = no
+is-method ()[ = no
+is-method (I,I)V = no
+is-method ()[V = no
+is-method ( 255*I )V = yes
+is-method ( 256*I )V = no
+is-method ( 127*J I)V = yes
+is-method ( 127*J II)V = no
+is-method ( 128*J )V = no
+is-method ( 128*D )V = no
+is-method ( 127*D Lp/K;)V = yes
+is-method ( 255*[J )V = yes
+is-method ( 255*[ I)V = yes
+is-method ( 256*[ I)V = no
+is-method () 256*[ I = no
+is-path A = yes
+is-path p/K$1 = yes
+is-path = no
+is-path /K = no
+is-path p/ = no
+is-path p//K = no
+is-path p.K = no
+is-path p;K = no
+is-path [I = no
+is-path \\c0.80 = no
+is-path A \\c0.80 = no
+is-path \\00 = no
+is-path \\c3.a9 = yes
+is-path \\ed.a0.bd.ed.b8.80 = yes
+is-path \\ed.a0.bd = no
+is-path \\ed.b8.80 = no
+is-path \\ed.b8.80.ed.a0.bd = no
+is-path \\ed.a0.bd.ed.a0.bd.ed.b8.80 = no
+is-path \\ed.a0.bd A = no
+is-path A \\ed.b8.80 = no
+is-path \\ed.a0.bd.ed.b8.80.ed.b8.80 = no
+is-path \\f0.9f.98.80 = no
+is-path p/.. = no
+is-path .. = no
+is-path \\c0 = no";

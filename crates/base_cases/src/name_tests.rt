@@ -1,6 +1,6 @@
 // Names and descriptors on both sides of each rule.
-use crate::name_table::TABLE;
-use crate::rows::{compare, first_word, parts, say_number, say_text, tell, word_of};
+use crate::name_table::ROWS;
+use crate::rows::{first_word, say_number, say_text, say_word, word_of, wrong_rows};
 use crate::test_bytes::{are_words, bytes_of};
 use jsa_names::{
     FieldType, MethodType, field_type, field_types_are_spelled, is_class_name, is_member_name,
@@ -109,10 +109,10 @@ fn path_word(alloc: Global, bytes: &[u8]) -> Result<&'static str, AllocError> {
 
 fn name_word(test: &str, bytes: &[u8]) -> &'static str {
     let passes = match test {
-        "text" => is_mutf8(bytes),
-        "class" => is_class_name(bytes),
-        "member" => is_member_name(bytes),
-        "named" => is_method_name(bytes),
+        "is-text" => is_mutf8(bytes),
+        "is-class" => is_class_name(bytes),
+        "is-member" => is_member_name(bytes),
+        "is-named" => is_method_name(bytes),
         _ => return "no such test",
     };
     word_of(passes)
@@ -120,9 +120,9 @@ fn name_word(test: &str, bytes: &[u8]) -> &'static str {
 
 fn test_word(alloc: Global, test: &str, bytes: &[u8]) -> Result<&'static str, AllocError> {
     match test {
-        "field" => field_word(alloc, bytes),
-        "method" => method_word(alloc, bytes),
-        "path" => path_word(alloc, bytes),
+        "is-field" => field_word(alloc, bytes),
+        "is-method" => method_word(alloc, bytes),
+        "is-path" => path_word(alloc, bytes),
         _ => Ok(name_word(test, bytes)),
     }
 }
@@ -133,30 +133,6 @@ fn found_word(alloc: Global, test: &str, words: &str) -> Result<&'static str, Al
     }
     let bytes = bytes_of(alloc, words)?;
     test_word(alloc, test, bytes.as_slice())
-}
-
-fn try_line(alloc: Global, line: &str, wrong: &mut String) -> Result<(), AllocError> {
-    let (test, words) = first_word(line);
-    let (wanted, words) = first_word(words);
-    let found = found_word(alloc, test, words)?;
-    if found == wanted {
-        return Ok(());
-    }
-    tell(line, found, wrong)
-}
-
-fn wrong_lines(alloc: Global, lines: &str) -> Result<String, AllocError> {
-    let mut wrong = String::new(alloc);
-    for line in lines.lines() {
-        try_line(alloc, line, &mut wrong)?;
-    }
-    Ok(wrong)
-}
-
-#[test]
-fn each_line_of_the_table_holds(rt: HostRuntime) -> Result<(), Fail> {
-    assert_eq!(rt; wrong_lines(rt.alloc(), TABLE)?.as_str(), "");
-    Ok(())
 }
 
 fn say_array(
@@ -249,7 +225,7 @@ fn say_path(
     }
 }
 
-fn say(
+fn say_part(
     alloc: Global,
     verb: &str,
     part: &str,
@@ -265,52 +241,29 @@ fn say(
     }
 }
 
-// A call is a verb, what is asked, and the words of its bytes.
-fn say_call(alloc: Global, call: &str, said: &mut String) -> Result<(), AllocError> {
-    let (verb, words) = first_word(call);
+// What is asked, and the words of the bytes.
+fn say_parts(alloc: Global, verb: &str, words: &str, said: &mut String) -> Result<(), AllocError> {
     let (part, words) = first_word(words);
     if !are_words(words) {
         return said.push_str("no bytes");
     }
     let bytes = bytes_of(alloc, words)?;
-    say(alloc, verb, part, bytes.as_slice(), said)
+    say_part(alloc, verb, part, bytes.as_slice(), said)
 }
 
-fn try_row(alloc: Global, row: &str, wrong: &mut String) -> Result<(), AllocError> {
-    let (call, _) = parts(row);
-    let mut said = String::new(alloc);
-    say_call(alloc, call, &mut said)?;
-    compare(row, said.as_str(), wrong)
-}
-
-fn wrong_rows(alloc: Global, rows: &str) -> Result<String, AllocError> {
-    let mut wrong = String::new(alloc);
-    for row in rows.lines() {
-        try_row(alloc, row, &mut wrong)?;
+pub fn say(alloc: Global, call: &str, said: &mut String) -> Result<(), AllocError> {
+    let (verb, words) = first_word(call);
+    match verb {
+        "method" | "field" | "units" | "path" => say_parts(alloc, verb, words, said),
+        _ => say_word(found_word(alloc, verb, words), said),
     }
-    Ok(wrong)
 }
-
-// A long takes two slots; a bracket is no type; each form spells a unit; and a path is a folder, a name and a suffix.
-static ROWS: &str = "method slots (IJ[Ljava/lang/String;)V = 4
-method result (IJ[Ljava/lang/String;)V = none
-method 0 (IJ[Ljava/lang/String;)V = I
-method 1 (IJ[Ljava/lang/String;)V = J
-method 2 (IJ[Ljava/lang/String;)V = array 1 Ljava/lang/String;
-method 3 (IJ[Ljava/lang/String;)V = none
-field type [ = none
-field type Lp/K; = class p/K
-units of \\c3.a9 = e9;
-units of \\41.c0.80.df.bf.e0.a0.80.ed.a0.bd.ef.bf.bf = 41;0;7ff;800;d83d;ffff;
-path a p/K = a/p/K.class
-path a p/../K = none
-path  \\70.2f.ed.a0.bd.ed.b8.80.c3.a9 = /p/\u{1F600}\u{E9}.class";
 
 #[test]
-fn descriptors_texts_and_paths_are_told(rt: HostRuntime) -> Result<(), Fail> {
+fn names_descriptors_texts_and_paths_are_told(rt: HostRuntime) -> Result<(), Fail> {
     method_types_are_spelled(b"(IJ[Ljava/lang/String;)V");
     field_types_are_spelled(b"Lp/K;");
     texts_are_spelled(b"A\xC0\x80\xDF\xBF\xE0\xA0\x80\xED\xA0\xBD\xEF\xBF\xBF");
-    assert_eq!(rt; wrong_rows(rt.alloc(), ROWS)?.as_str(), "");
+    assert_eq!(rt; wrong_rows(rt.alloc(), "names", ROWS)?.as_str(), "");
     Ok(())
 }

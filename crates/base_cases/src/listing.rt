@@ -1,12 +1,9 @@
-// A code is read as another program reads it, cut within each of its instructions, and written again.
+// A code as it is read, cut within each of its instructions and written again, and the table of opcodes.
 use crate::rows::say_number;
 use crate::test_bytes::byte_of;
 use crate::test_code::{CODE, LISTING};
-use jsa_ops::{
-    Instr, OpFault, answers_are_exact, behind_is_unread, cut_goes_on, decode, is_unsupported, write,
-};
+use jsa_ops::{Instr, OpFault, decode, is_unsupported, write};
 use std::alloc::{AllocError, Global};
-use std::test::Fail;
 
 // A line for each opcode: its byte, its mnemonic, its variant and its form.
 macro_rules! row_lines {
@@ -326,33 +323,31 @@ fn written(alloc: Global, code: &[u8]) -> Result<Vec<u8>, AllocError> {
     Ok(out)
 }
 
-fn listed(alloc: Global) -> Result<String, AllocError> {
-    let code = code(alloc)?;
-    listing(alloc, code.as_slice())
-}
-
-fn listed_again(alloc: Global) -> Result<String, AllocError> {
-    let code = code(alloc)?;
-    let out = written(alloc, code.as_slice())?;
-    if out.len() != code.len() {
-        return String::from_str(alloc, "of another length");
+fn compare(listing: &str, said: &mut String) -> Result<(), AllocError> {
+    if listing == LISTING {
+        return said.push_str("as javap reads it");
     }
-    listing(alloc, out.as_slice())
+    said.push_str(listing)
 }
 
-#[test]
-fn a_code_is_read_as_javap_reads_it_and_cut_within_each_instruction(
-    rt: HostRuntime,
-) -> Result<(), Fail> {
-    answers_are_exact();
-    behind_is_unread();
-    cut_goes_on();
-    assert_eq!(rt; listed(rt.alloc())?.as_str(), LISTING);
-    Ok(())
+fn say_listing(alloc: Global, code: &[u8], said: &mut String) -> Result<(), AllocError> {
+    let listing = listing(alloc, code)?;
+    compare(listing.as_str(), said)
 }
 
-#[test]
-fn what_was_read_is_written(rt: HostRuntime) -> Result<(), Fail> {
-    assert_eq!(rt; listed_again(rt.alloc())?.as_str(), LISTING);
-    Ok(())
+fn say_again(alloc: Global, code: &[u8], said: &mut String) -> Result<(), AllocError> {
+    let out = written(alloc, code)?;
+    if out.len() != code.len() {
+        return said.push_str("of another length");
+    }
+    say_listing(alloc, out.as_slice(), said)
+}
+
+// How the code is read, or the code that is written again of what was read.
+pub fn say_code(alloc: Global, which: &str, said: &mut String) -> Result<(), AllocError> {
+    let code = code(alloc)?;
+    match which {
+        "again" => say_again(alloc, code.as_slice(), said),
+        _ => say_listing(alloc, code.as_slice(), said),
+    }
 }
