@@ -8,6 +8,25 @@ use Rattle.class_tree.specs.Entries.{is_wide}
 unfoldable pub u8_at : List ℕ → Read ℕ
 u8_at = made (λ p. 0x1_0000_0000 * p.0 + p.1) (pair_at u4_at u4_at)
 
+-- entries of the same parts, by their tags
+
+abbrev pub number_entry : ℕ → ℕ → PoolEntry
+number_entry tag bits = if tag == 3 then Integer bits else Float bits
+
+abbrev pub wide_entry : ℕ → ℕ → PoolEntry
+wide_entry tag bits = if tag == 5 then Long bits else Double bits
+
+abbrev pub text_entry : ℕ → ℕ → PoolEntry
+text_entry tag text = if tag == 7 then Class text else if tag == 8 then Str text else MethodType text
+
+abbrev pub pair_entry : ℕ → ℕ × ℕ → PoolEntry
+pair_entry tag p =
+    if tag == 9 then Fieldref p.0 p.1
+    else if tag == 10 then Methodref p.0 p.1
+    else if tag == 11 then InterfaceMethodref p.0 p.1
+    else if tag == 12 then NameAndType p.0 p.1
+    else InvokeDynamic p.0 p.1
+
 -- what stands behind a tag
 unfoldable pub entry_by : ℕ → List ℕ → Read PoolEntry
 entry_by tag bytes =

@@ -1,8 +1,9 @@
 //! Reads a constant pool from left to right.
-ghost use Rattle.std.specs.Prelude.{◌≡◌, true};
-ghost use Rattle.jsa_base.specs.Reading.{u1_at, u2_at, u4_at, bytes_at, pair_at, text_at};
+ghost use Rattle.std.specs.Prelude.{◌≡◌, Some, None, MatchOption, true};
+ghost use Rattle.jsa_base.specs.Reading.{u1_at, u2_at, u4_at, bytes_at, made, pair_at, text_at};
 ghost use Rattle.class_tree.specs.Outcomes.{Gives};
-ghost use Rattle.class_tree.specs.Reading.{u8_at, entry_by, entry_at, slot_at, entries_at, pool_at};
+ghost use Rattle.class_tree.specs.Reading.{u8_at, number_entry, wide_entry, text_entry, pair_entry, entry_by, entry_at, slot_at, entries_at, pool_at};
+ghost use Rattle.class_tree.specs.declared.constant_pool.PoolEntry.TheVariants as pool;
 ghost use Rattle.class_tree.specs.Entries.{is_wide};
 
 use crate::constant_pool::PoolEntry;
@@ -11,31 +12,17 @@ use jsa_base::Cursor;
 use sqlite_items::Items;
 use std::alloc::Global;
 
-fn u1(cursor: &mut Cursor<'_>) -> Result<u8, FormatFault>
-    ensures { Gives result cursor.new (u1_at cursor.old) }
-{
-    cursor.u1().ok_or(FormatFault::NotClass)
-}
-
-fn u2(cursor: &mut Cursor<'_>) -> Result<u16, FormatFault>
-    ensures { Gives result cursor.new (u2_at cursor.old) }
-{
-    cursor.u2().ok_or(FormatFault::NotClass)
-}
-
-fn u4(cursor: &mut Cursor<'_>) -> Result<u32, FormatFault>
-    ensures { Gives result cursor.new (u4_at cursor.old) }
-{
-    cursor.u4().ok_or(FormatFault::NotClass)
-}
-
 #[tactic(auto, unfolding(crate::specs::Reading::u8_at))]
-fn u8(cursor: &mut Cursor<'_>) -> Result<u64, FormatFault>
-    ensures { Gives result cursor.new (u8_at cursor.old) }
+fn u8(cursor: &mut Cursor<'_>) -> Option<u64>
+    ensures { MatchOption result (u8_at cursor.old ≡ None) (λ n. u8_at cursor.old ≡ Some (n, cursor.new)) }
 {
-    let high = u4(cursor)?;
-    let low = u4(cursor)?;
-    Ok(0x1_0000_0000 * u64::from(high) + u64::from(low))
+    let Some(high) = cursor.u4() else {
+        return None;
+    };
+    let Some(low) = cursor.u4() else {
+        return None;
+    };
+    Some(0x1_0000_0000 * u64::from(high) + u64::from(low))
 }
 
 fn bytes(alloc: Global, n: usize, cursor: &mut Cursor<'_>) -> Result<Items<u8>, FormatFault>
@@ -51,24 +38,113 @@ fn bytes(alloc: Global, n: usize, cursor: &mut Cursor<'_>) -> Result<Items<u8>, 
 fn text(alloc: Global, cursor: &mut Cursor<'_>) -> Result<Items<u8>, FormatFault>
     ensures { Gives result cursor.new (text_at cursor.old) }
 {
-    let size = u2(cursor)?;
+    let Some(size) = cursor.u2() else {
+        return Err(FormatFault::NotClass);
+    };
     bytes(alloc, usize::from(size), cursor)
 }
 
-fn pair(cursor: &mut Cursor<'_>) -> Result<(u16, u16), FormatFault>
-    ensures { Gives result cursor.new (pair_at u2_at u2_at cursor.old) }
+fn pair(cursor: &mut Cursor<'_>) -> Option<(u16, u16)>
+    ensures { MatchOption result (pair_at u2_at u2_at cursor.old ≡ None) (λ p. pair_at u2_at u2_at cursor.old ≡ Some (p, cursor.new)) }
 {
-    let first = u2(cursor)?;
-    let second = u2(cursor)?;
-    Ok((first, second))
+    let Some(first) = cursor.u2() else {
+        return None;
+    };
+    let Some(second) = cursor.u2() else {
+        return None;
+    };
+    Some((first, second))
 }
 
-fn handle(cursor: &mut Cursor<'_>) -> Result<(u8, u16), FormatFault>
-    ensures { Gives result cursor.new (pair_at u1_at u2_at cursor.old) }
+// An integer or a float.
+fn number(tag: u8, cursor: &mut Cursor<'_>) -> Result<PoolEntry, FormatFault>
+    ensures { Gives result cursor.new (made (number_entry tag) u4_at cursor.old) }
 {
-    let kind = u1(cursor)?;
-    let member = u2(cursor)?;
-    Ok((kind, member))
+    let Some(bits) = cursor.u4() else {
+        return Err(FormatFault::NotClass);
+    };
+    if tag == 3 {
+        Ok(PoolEntry::Integer(bits))
+    } else {
+        Ok(PoolEntry::Float(bits))
+    }
+}
+
+// A long or a double.
+fn wide_number(tag: u8, cursor: &mut Cursor<'_>) -> Result<PoolEntry, FormatFault>
+    ensures { Gives result cursor.new (made (wide_entry tag) u8_at cursor.old) }
+{
+    let Some(bits) = u8(cursor) else {
+        return Err(FormatFault::NotClass);
+    };
+    if tag == 5 {
+        Ok(PoolEntry::Long(bits))
+    } else {
+        Ok(PoolEntry::Double(bits))
+    }
+}
+
+// A class, a string or a method type.
+fn of_text(tag: u8, cursor: &mut Cursor<'_>) -> Result<PoolEntry, FormatFault>
+    ensures { Gives result cursor.new (made (text_entry tag) u2_at cursor.old) }
+{
+    let Some(text) = cursor.u2() else {
+        return Err(FormatFault::NotClass);
+    };
+    if tag == 7 {
+        Ok(PoolEntry::Class(text))
+    } else if tag == 8 {
+        Ok(PoolEntry::Str(text))
+    } else {
+        Ok(PoolEntry::MethodType(text))
+    }
+}
+
+// An entry of two indices.
+fn paired(tag: u8, first: u16, second: u16) -> PoolEntry
+    ensures { result ≡ pair_entry tag (first, second) }
+{
+    if tag == 9 {
+        PoolEntry::Fieldref(first, second)
+    } else if tag == 10 {
+        PoolEntry::Methodref(first, second)
+    } else if tag == 11 {
+        PoolEntry::InterfaceMethodref(first, second)
+    } else if tag == 12 {
+        PoolEntry::NameAndType(first, second)
+    } else {
+        PoolEntry::InvokeDynamic(first, second)
+    }
+}
+
+fn of_pair(tag: u8, cursor: &mut Cursor<'_>) -> Result<PoolEntry, FormatFault>
+    ensures { Gives result cursor.new (made (pair_entry tag) (pair_at u2_at u2_at) cursor.old) }
+{
+    let Some((first, second)) = pair(cursor) else {
+        return Err(FormatFault::NotClass);
+    };
+    Ok(paired(tag, first, second))
+}
+
+fn handle(cursor: &mut Cursor<'_>) -> Result<PoolEntry, FormatFault>
+    ensures { Gives result cursor.new (made (λ p. pool.MethodHandle p.0 p.1) (pair_at u1_at u2_at) cursor.old) }
+{
+    let Some(kind) = cursor.u1() else {
+        return Err(FormatFault::NotClass);
+    };
+    let Some(member) = cursor.u2() else {
+        return Err(FormatFault::NotClass);
+    };
+    Ok(PoolEntry::MethodHandle(kind, member))
+}
+
+fn utf8(alloc: Global, cursor: &mut Cursor<'_>) -> Result<PoolEntry, FormatFault>
+    ensures { Gives result cursor.new (made pool.Utf8 text_at cursor.old) }
+{
+    match text(alloc, cursor) {
+        Ok(text) => Ok(PoolEntry::Utf8(text)),
+        Err(fault) => Err(fault),
+    }
 }
 
 // What stands behind a tag.
@@ -77,38 +153,20 @@ fn entry_behind(alloc: Global, tag: u8, cursor: &mut Cursor<'_>) -> Result<PoolE
     ensures { Gives result cursor.new (entry_by tag cursor.old) }
 {
     match tag {
-        1 => Ok(PoolEntry::Utf8(text(alloc, cursor)?)),
-        3 => Ok(PoolEntry::Integer(u4(cursor)?)),
-        4 => Ok(PoolEntry::Float(u4(cursor)?)),
-        5 => Ok(PoolEntry::Long(u8(cursor)?)),
-        6 => Ok(PoolEntry::Double(u8(cursor)?)),
-        7 => Ok(PoolEntry::Class(u2(cursor)?)),
-        8 => Ok(PoolEntry::Str(u2(cursor)?)),
-        9 => {
-            let (class, member) = pair(cursor)?;
-            Ok(PoolEntry::Fieldref(class, member))
-        }
-        10 => {
-            let (class, member) = pair(cursor)?;
-            Ok(PoolEntry::Methodref(class, member))
-        }
-        11 => {
-            let (class, member) = pair(cursor)?;
-            Ok(PoolEntry::InterfaceMethodref(class, member))
-        }
-        12 => {
-            let (name, desc) = pair(cursor)?;
-            Ok(PoolEntry::NameAndType(name, desc))
-        }
-        15 => {
-            let (kind, member) = handle(cursor)?;
-            Ok(PoolEntry::MethodHandle(kind, member))
-        }
-        16 => Ok(PoolEntry::MethodType(u2(cursor)?)),
-        18 => {
-            let (bootstrap, member) = pair(cursor)?;
-            Ok(PoolEntry::InvokeDynamic(bootstrap, member))
-        }
+        1 => utf8(alloc, cursor),
+        3 => number(3, cursor),
+        4 => number(4, cursor),
+        5 => wide_number(5, cursor),
+        6 => wide_number(6, cursor),
+        7 => of_text(7, cursor),
+        8 => of_text(8, cursor),
+        9 => of_pair(9, cursor),
+        10 => of_pair(10, cursor),
+        11 => of_pair(11, cursor),
+        12 => of_pair(12, cursor),
+        15 => handle(cursor),
+        16 => of_text(16, cursor),
+        18 => of_pair(18, cursor),
         _ => Err(FormatFault::NotClass),
     }
 }
@@ -117,7 +175,9 @@ fn entry_behind(alloc: Global, tag: u8, cursor: &mut Cursor<'_>) -> Result<PoolE
 fn entry(alloc: Global, cursor: &mut Cursor<'_>) -> Result<PoolEntry, FormatFault>
     ensures { Gives result cursor.new (entry_at cursor.old) }
 {
-    let tag = u1(cursor)?;
+    let Some(tag) = cursor.u1() else {
+        return Err(FormatFault::NotClass);
+    };
     entry_behind(alloc, tag, cursor)
 }
 
@@ -167,6 +227,8 @@ pub(crate) fn all_entries(
 ) -> Result<Items<PoolEntry>, FormatFault>
     ensures { Gives result cursor.new (pool_at cursor.old) }
 {
-    let count = u2(cursor)?;
+    let Some(count) = cursor.u2() else {
+        return Err(FormatFault::NotClass);
+    };
     entries(alloc, count, cursor)
 }

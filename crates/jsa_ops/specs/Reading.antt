@@ -1,7 +1,9 @@
 -- The instruction at a place of the code, read from left to right.
-use Rattle.std.specs.Prelude.{◌≡◌, ℕ, ℤ, ◌-◌, ◌+◌, ◌*◌, ◌^◌, Bool, true, List, ◌∷◌, length, drop, Option, Some, None, Result, Ok, Err, if◌then◌else◌, nat_le, int_lt}
+use Rattle.std.specs.Prelude.{◌≡◌, ℕ, ℤ, ◌-◌, ◌+◌, ◌*◌, ◌^◌, Bool, true, false, List, ◌∷◌, length, drop, Option, Some, None, Result, Ok, Err, if◌then◌else◌, nat_le, int_lt}
 use Rattle.std.specs.Int.{w8, w16, w32, cast_signed}
 use Rattle.jsa_base.specs.Reading.{Read, u1_at, u2_at, u4_at, bytes_at, pair_at, made}
+use Rattle.jsa_ops.specs.declared.reading.Named.{Named}
+use Rattle.jsa_ops.specs.declared.reading.Named.TheVariants as names
 use Rattle.jsa_ops.specs.declared.form.Form.{Form}
 use Rattle.jsa_ops.specs.declared.form.Form.TheVariants as forms
 use Rattle.jsa_ops.specs.declared.fault.OpFault.{OpFault}
@@ -100,6 +102,22 @@ call_at = pair_at u2_at (pair_at u1_at u1_at)
 
 abbrev pub dimensions_at : List ℕ → Read (ℕ × ℕ)
 dimensions_at = pair_at u2_at u1_at
+
+-- instructions of the same operands
+
+abbrev pub named_as : ℕ → Named → ℕ → Instruction
+named_as op names.Constant = Constant op
+named_as op names.Local = Local op
+named_as op names.Member = Member op
+named_as op names.ClassOf = ClassOf op
+
+abbrev pub two_as : ℕ → Bool → ℤ → Instruction
+two_as op true = Branch op
+two_as op false = Short op
+
+abbrev pub call_as : ℕ → Bool → ℕ × (ℕ × ℕ) → Instruction
+call_as op true = λ p. Dynamic op p.0 p.1.0 p.1.1
+call_as op false = λ p. Interface op p.0 p.1.0 p.1.1
 
 -- the operands of each form
 unfoldable pub operands_at : ℕ → ℕ → Form → List ℕ → Result (Instruction × List ℕ) OpFault

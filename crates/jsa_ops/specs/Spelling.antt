@@ -85,6 +85,26 @@ operands pad (MultiArray op i d) = u2 i ++ u1 d
 operands pad (TableSwitch op other low high distances) = pad ++ (s4 other ++ (s4 low ++ (s4 high ++ distances)))
 operands pad (LookupSwitch op other pairs) = pad ++ (s4 other ++ (u4 (length pairs / 8 % 4294967296) ++ pairs))
 
+-- It holds more than an index or a local.
+abbrev pub is_longer : Instruction → Bool
+is_longer (Plain op) = false
+is_longer (Byte op v) = false
+is_longer (Short op v) = false
+is_longer (Constant op i) = false
+is_longer (Local op n) = false
+is_longer (Iinc op n v) = false
+is_longer (Wide op code n) = false
+is_longer (WideIinc op n v) = false
+is_longer (Branch op d) = false
+is_longer (Member op i) = false
+is_longer (Interface op i a b) = true
+is_longer (Dynamic op i a b) = true
+is_longer (ClassOf op i) = false
+is_longer (NewArray op code) = false
+is_longer (MultiArray op i d) = true
+is_longer (TableSwitch op other low high distances) = true
+is_longer (LookupSwitch op other pairs) = true
+
 -- The opcode names an instruction of that form, and the operands fit where they are written.
 abbrev pub Fits : Instruction → Type 0
 Fits (Plain op) = form_of op ≡ Some forms.Plain

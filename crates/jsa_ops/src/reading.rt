@@ -1,13 +1,14 @@
 //! Reads the instruction at a place of a code.
-ghost use Rattle.std.specs.Prelude.{◌≡◌, ◌<◌, ◌↔◌, length, drop, Result, Err, ℕ, IfOk, ◌≤◌};
-ghost use Rattle.jsa_base.specs.Reading.{u1_at, u2_at, u4_at, bytes_at};
-ghost use Rattle.jsa_ops.specs.Instruction.{Instruction};
+ghost use Rattle.std.specs.Prelude.{◌≡◌, ◌<◌, ◌↔◌, length, drop, Result, Err, Some, None, MatchOption, ℕ, IfOk, ◌≤◌};
+ghost use Rattle.jsa_base.specs.Reading.{u1_at, u2_at, bytes_at, pair_at};
+ghost use Rattle.jsa_ops.specs.Instruction as shape;
+ghost use Rattle.jsa_ops.specs.Instruction.{Instruction, shown};
 ghost use Rattle.jsa_ops.specs.Opcodes.{form_of as form_at};
 ghost use Rattle.jsa_ops.specs.declared.fault.OpFault.{OpFault as Fault};
 ghost use Rattle.jsa_ops.specs.Spelling.{padding as padding_at};
 ghost use Rattle.jsa_ops.specs.Places.{Answers, IsCut};
 ghost use Rattle.jsa_ops.specs.declared.fault.OpFault.TheVariants.{Cut};
-ghost use Rattle.jsa_ops.specs.Reading.{GivesPart, Gives, shown_at, decoded, s1_at, s2_at, s4_at, wide_at, widened, distances_at, range_at, pairs_at, count_at, table_switch_at, lookup_switch_at, iinc_at, call_at, dimensions_at, operands_at, behind, instruction_at};
+ghost use Rattle.jsa_ops.specs.Reading.{Gives, of_part, shown_at, decoded, named_as, two_as, call_as, s1_at, s2_at, s4_at, wide_at, widened, distances_at, range_at, pairs_at, count_at, table_switch_at, lookup_switch_at, iinc_at, call_at, dimensions_at, operands_at, behind, instruction_at};
 
 use crate::fault::OpFault;
 use crate::form::{Form, form_of};
@@ -17,99 +18,93 @@ use jsa_base::Cursor;
 
 // ---- numbers
 
-fn u1(cursor: &mut Cursor<'_>) -> Result<u8, OpFault>
-    ensures { GivesPart (λ n. n) result cursor.new (u1_at cursor.old) }
+fn s2(cursor: &mut Cursor<'_>) -> Option<i16>
+    ensures { MatchOption result (s2_at cursor.old ≡ None) (λ n. s2_at cursor.old ≡ Some (n, cursor.new)) }
 {
-    cursor.u1().ok_or(OpFault::Cut)
+    let Some(half) = cursor.u2() else {
+        return None;
+    };
+    Some(half.cast_signed())
 }
 
-fn u2(cursor: &mut Cursor<'_>) -> Result<u16, OpFault>
-    ensures { GivesPart (λ n. n) result cursor.new (u2_at cursor.old) }
+fn s4(cursor: &mut Cursor<'_>) -> Option<i32>
+    ensures { MatchOption result (s4_at cursor.old ≡ None) (λ n. s4_at cursor.old ≡ Some (n, cursor.new)) }
 {
-    cursor.u2().ok_or(OpFault::Cut)
-}
-
-fn u4(cursor: &mut Cursor<'_>) -> Result<u32, OpFault>
-    ensures { GivesPart (λ n. n) result cursor.new (u4_at cursor.old) }
-{
-    cursor.u4().ok_or(OpFault::Cut)
-}
-
-fn bytes<'a>(cursor: &mut Cursor<'a>, n: usize) -> Result<&'a [u8], OpFault>
-    ensures { GivesPart (λ b. b.now) result cursor.new (bytes_at n cursor.old) }
-{
-    cursor.bytes(n).ok_or(OpFault::Cut)
-}
-
-fn s1(cursor: &mut Cursor<'_>) -> Result<i8, OpFault>
-    ensures { GivesPart (λ n. n) result cursor.new (s1_at cursor.old) }
-{
-    let number = u1(cursor)?;
-    Ok(number.cast_signed())
-}
-
-fn s2(cursor: &mut Cursor<'_>) -> Result<i16, OpFault>
-    ensures { GivesPart (λ n. n) result cursor.new (s2_at cursor.old) }
-{
-    let number = u2(cursor)?;
-    Ok(number.cast_signed())
-}
-
-fn s4(cursor: &mut Cursor<'_>) -> Result<i32, OpFault>
-    ensures { GivesPart (λ n. n) result cursor.new (s4_at cursor.old) }
-{
-    let number = u4(cursor)?;
-    Ok(number.cast_signed())
+    let Some(number) = cursor.u4() else {
+        return None;
+    };
+    Some(number.cast_signed())
 }
 
 // ---- operands of several parts
 
-fn iinc(cursor: &mut Cursor<'_>) -> Result<(u8, i8), OpFault>
-    ensures { GivesPart (λ p. p) result cursor.new (iinc_at cursor.old) }
-{
-    let local = u1(cursor)?;
-    let amount = s1(cursor)?;
-    Ok((local, amount))
-}
-
-// A pool index and two more bytes.
-fn call(cursor: &mut Cursor<'_>) -> Result<(u16, u8, u8), OpFault>
-    ensures { GivesPart (λ p. (p.0, (p.1, p.2))) result cursor.new (call_at cursor.old) }
-{
-    let index = u2(cursor)?;
-    let first = u1(cursor)?;
-    let second = u1(cursor)?;
-    Ok((index, first, second))
-}
-
-fn dimensions(cursor: &mut Cursor<'_>) -> Result<(u16, u8), OpFault>
-    ensures { GivesPart (λ p. p) result cursor.new (dimensions_at cursor.old) }
-{
-    let index = u2(cursor)?;
-    let dimensions = u1(cursor)?;
-    Ok((index, dimensions))
-}
-
 // The default distance, low and high.
-fn range(cursor: &mut Cursor<'_>) -> Result<(i32, i32, i32), OpFault>
-    ensures { GivesPart (λ p. (p.0, (p.1, p.2))) result cursor.new (range_at cursor.old) }
+fn range(cursor: &mut Cursor<'_>) -> Option<(i32, i32, i32)>
+    ensures { MatchOption result (range_at cursor.old ≡ None) (λ p. range_at cursor.old ≡ Some ((p.0, (p.1, p.2)), cursor.new)) }
 {
-    let other = s4(cursor)?;
-    let low = s4(cursor)?;
-    let high = s4(cursor)?;
-    Ok((other, low, high))
+    let Some(other) = s4(cursor) else {
+        return None;
+    };
+    let Some(low) = s4(cursor) else {
+        return None;
+    };
+    let Some(high) = s4(cursor) else {
+        return None;
+    };
+    Some((other, low, high))
 }
 
 // The default distance and the number of pairs.
-fn count(cursor: &mut Cursor<'_>) -> Result<(i32, u32), OpFault>
-    ensures { GivesPart (λ p. p) result cursor.new (count_at cursor.old) }
+fn count(cursor: &mut Cursor<'_>) -> Option<(i32, u32)>
+    ensures { MatchOption result (count_at cursor.old ≡ None) (λ p. count_at cursor.old ≡ Some (p, cursor.new)) }
 {
-    let other = s4(cursor)?;
-    let count = u4(cursor)?;
-    Ok((other, count))
+    let Some(other) = s4(cursor) else {
+        return None;
+    };
+    let Some(count) = cursor.u4() else {
+        return None;
+    };
+    Some((other, count))
+}
+
+// A pool index and two more bytes.
+fn call(cursor: &mut Cursor<'_>) -> Option<(u16, u8, u8)>
+    ensures { MatchOption result (call_at cursor.old ≡ None) (λ p. call_at cursor.old ≡ Some ((p.0, (p.1, p.2)), cursor.new)) }
+{
+    let Some(index) = cursor.u2() else {
+        return None;
+    };
+    let Some(first) = cursor.u1() else {
+        return None;
+    };
+    let Some(second) = cursor.u1() else {
+        return None;
+    };
+    Some((index, first, second))
 }
 
 // ---- wide
+
+fn wide_local<'a>(cursor: &mut Cursor<'a>, op: u8, code: u8) -> Result<Instr<'a>, OpFault>
+    ensures { Gives result cursor.new (of_part (shape.Wide op code) u2_at cursor.old) }
+{
+    let Some(local) = cursor.u2() else {
+        return Err(OpFault::Cut);
+    };
+    Ok(Instr::Wide(op, code, local))
+}
+
+fn wide_iinc<'a>(cursor: &mut Cursor<'a>, op: u8) -> Result<Instr<'a>, OpFault>
+    ensures { Gives result cursor.new (of_part (λ p. shape.WideIinc op p.0 p.1) (pair_at u2_at s2_at) cursor.old) }
+{
+    let Some(local) = cursor.u2() else {
+        return Err(OpFault::Cut);
+    };
+    let Some(amount) = s2(cursor) else {
+        return Err(OpFault::Cut);
+    };
+    Ok(Instr::WideIinc(op, local, amount))
+}
 
 // What stands behind wide and the opcode after it.
 #[tactic(auto, unfolding(crate::specs::Reading::widened))]
@@ -117,12 +112,8 @@ fn wide_operands<'a>(cursor: &mut Cursor<'a>, op: u8, code: u8) -> Result<Instr<
     ensures { Gives result cursor.new (widened op code (form_at code) cursor.old) }
 {
     match form_of(code) {
-        Some(Form::Local) => Ok(Instr::Wide(op, code, u2(cursor)?)),
-        Some(Form::Iinc) => {
-            let local = u2(cursor)?;
-            let amount = s2(cursor)?;
-            Ok(Instr::WideIinc(op, local, amount))
-        }
+        Some(Form::Local) => wide_local(cursor, op, code),
+        Some(Form::Iinc) => wide_iinc(cursor, op),
         _ => Err(OpFault::BadOpcode(code)),
     }
 }
@@ -131,17 +122,19 @@ fn wide_operands<'a>(cursor: &mut Cursor<'a>, op: u8, code: u8) -> Result<Instr<
 fn wide<'a>(cursor: &mut Cursor<'a>, op: u8) -> Result<Instr<'a>, OpFault>
     ensures { Gives result cursor.new (wide_at op cursor.old) }
 {
-    let code = u1(cursor)?;
+    let Some(code) = cursor.u1() else {
+        return Err(OpFault::Cut);
+    };
     wide_operands(cursor, op, code)
 }
 
 // ---- the switches
 
 // The bytes up to the next multiple of four from the start of the code, which may be any.
-fn padding<'a>(cursor: &mut Cursor<'a>, pc: u32) -> Result<&'a [u8], OpFault>
-    ensures { GivesPart (λ b. b.now) result cursor.new (bytes_at (padding_at pc) cursor.old) }
+fn padding<'a>(cursor: &mut Cursor<'a>, pc: u32) -> Option<&'a [u8]>
+    ensures { MatchOption result (bytes_at (padding_at pc) cursor.old ≡ None) (λ b. bytes_at (padding_at pc) cursor.old ≡ Some (b.now, cursor.new)) }
 {
-    bytes(cursor, 3 - pc as usize % 4)
+    cursor.bytes(3 - pc as usize % 4)
 }
 
 // The distances of a table, one for each number from low to high. Their bytes are counted in 64 bits.
@@ -159,7 +152,9 @@ fn distances<'a>(
         return Err(OpFault::BadOperand);
     }
     let count = high.abs_diff(low) as usize + 1;
-    let distances = bytes(cursor, 4 * count)?;
+    let Some(distances) = cursor.bytes(4 * count) else {
+        return Err(OpFault::Cut);
+    };
     Ok(Instr::TableSwitch(op, other, low, high, distances))
 }
 
@@ -171,7 +166,9 @@ fn pairs<'a>(cursor: &mut Cursor<'a>, op: u8, other: i32, count: u32) -> Result<
     if 0x8000_0000 <= count {
         return Err(OpFault::BadOperand);
     }
-    let pairs = bytes(cursor, 8 * count as usize)?;
+    let Some(pairs) = cursor.bytes(8 * count as usize) else {
+        return Err(OpFault::Cut);
+    };
     if ascend(pairs) {
         Ok(Instr::LookupSwitch(op, other, pairs))
     } else {
@@ -183,8 +180,12 @@ fn pairs<'a>(cursor: &mut Cursor<'a>, op: u8, other: i32, count: u32) -> Result<
 fn table_switch<'a>(cursor: &mut Cursor<'a>, pc: u32, op: u8) -> Result<Instr<'a>, OpFault>
     ensures { Gives result cursor.new (table_switch_at op pc cursor.old) }
 {
-    let _padding = padding(cursor, pc)?;
-    let (other, low, high) = range(cursor)?;
+    let Some(_padding) = padding(cursor, pc) else {
+        return Err(OpFault::Cut);
+    };
+    let Some((other, low, high)) = range(cursor) else {
+        return Err(OpFault::Cut);
+    };
     distances(cursor, op, other, low, high)
 }
 
@@ -192,12 +193,135 @@ fn table_switch<'a>(cursor: &mut Cursor<'a>, pc: u32, op: u8) -> Result<Instr<'a
 fn lookup_switch<'a>(cursor: &mut Cursor<'a>, pc: u32, op: u8) -> Result<Instr<'a>, OpFault>
     ensures { Gives result cursor.new (lookup_switch_at op pc cursor.old) }
 {
-    let _padding = padding(cursor, pc)?;
-    let (other, count) = count(cursor)?;
+    let Some(_padding) = padding(cursor, pc) else {
+        return Err(OpFault::Cut);
+    };
+    let Some((other, count)) = count(cursor) else {
+        return Err(OpFault::Cut);
+    };
     pairs(cursor, op, other, count)
 }
 
 // ---- each form
+
+fn byte<'a>(cursor: &mut Cursor<'a>, op: u8) -> Result<Instr<'a>, OpFault>
+    ensures { Gives result cursor.new (of_part (shape.Byte op) s1_at cursor.old) }
+{
+    let Some(number) = cursor.u1() else {
+        return Err(OpFault::Cut);
+    };
+    Ok(Instr::Byte(op, number.cast_signed()))
+}
+
+// sipush, or a branch by two bytes.
+fn of_two<'a>(cursor: &mut Cursor<'a>, op: u8, is_branch: bool) -> Result<Instr<'a>, OpFault>
+    ensures { Gives result cursor.new (of_part (two_as op is_branch) s2_at cursor.old) }
+{
+    let Some(number) = s2(cursor) else {
+        return Err(OpFault::Cut);
+    };
+    if is_branch {
+        Ok(Instr::Branch(op, i32::from(number)))
+    } else {
+        Ok(Instr::Short(op, number))
+    }
+}
+
+fn far_branch<'a>(cursor: &mut Cursor<'a>, op: u8) -> Result<Instr<'a>, OpFault>
+    ensures { Gives result cursor.new (of_part (shape.Branch op) s4_at cursor.old) }
+{
+    let Some(distance) = s4(cursor) else {
+        return Err(OpFault::Cut);
+    };
+    Ok(Instr::Branch(op, distance))
+}
+
+/// What an instruction of one index or local is.
+#[derive(Clone, Copy)]
+pub(crate) enum Named {
+    Constant,
+    Local,
+    Member,
+    ClassOf,
+}
+
+fn with_index<'a>(op: u8, what: Named, index: u16) -> Instr<'a>
+    ensures { shown result ≡ named_as op what index }
+{
+    match what {
+        Named::Constant => Instr::Constant(op, index),
+        Named::Local => Instr::Local(op, index),
+        Named::Member => Instr::Member(op, index),
+        Named::ClassOf => Instr::ClassOf(op, index),
+    }
+}
+
+// With an index or a local of one byte.
+fn near<'a>(cursor: &mut Cursor<'a>, op: u8, what: Named) -> Result<Instr<'a>, OpFault>
+    ensures { Gives result cursor.new (of_part (named_as op what) u1_at cursor.old) }
+{
+    let Some(index) = cursor.u1() else {
+        return Err(OpFault::Cut);
+    };
+    Ok(with_index(op, what, u16::from(index)))
+}
+
+// With an index of two bytes.
+fn far<'a>(cursor: &mut Cursor<'a>, op: u8, what: Named) -> Result<Instr<'a>, OpFault>
+    ensures { Gives result cursor.new (of_part (named_as op what) u2_at cursor.old) }
+{
+    let Some(index) = cursor.u2() else {
+        return Err(OpFault::Cut);
+    };
+    Ok(with_index(op, what, index))
+}
+
+fn new_array<'a>(cursor: &mut Cursor<'a>, op: u8) -> Result<Instr<'a>, OpFault>
+    ensures { Gives result cursor.new (of_part (shape.NewArray op) u1_at cursor.old) }
+{
+    let Some(code) = cursor.u1() else {
+        return Err(OpFault::Cut);
+    };
+    Ok(Instr::NewArray(op, code))
+}
+
+fn iinc<'a>(cursor: &mut Cursor<'a>, op: u8) -> Result<Instr<'a>, OpFault>
+    ensures { Gives result cursor.new (of_part (λ p. shape.Iinc op p.0 p.1) iinc_at cursor.old) }
+{
+    let Some(local) = cursor.u1() else {
+        return Err(OpFault::Cut);
+    };
+    let Some(amount) = cursor.u1() else {
+        return Err(OpFault::Cut);
+    };
+    Ok(Instr::Iinc(op, u16::from(local), i16::from(amount.cast_signed())))
+}
+
+fn multi_array<'a>(cursor: &mut Cursor<'a>, op: u8) -> Result<Instr<'a>, OpFault>
+    ensures { Gives result cursor.new (of_part (λ p. shape.MultiArray op p.0 p.1) dimensions_at cursor.old) }
+{
+    let Some(index) = cursor.u2() else {
+        return Err(OpFault::Cut);
+    };
+    let Some(dimensions) = cursor.u1() else {
+        return Err(OpFault::Cut);
+    };
+    Ok(Instr::MultiArray(op, index, dimensions))
+}
+
+// invokeinterface or invokedynamic.
+fn of_call<'a>(cursor: &mut Cursor<'a>, op: u8, is_dynamic: bool) -> Result<Instr<'a>, OpFault>
+    ensures { Gives result cursor.new (of_part (call_as op is_dynamic) call_at cursor.old) }
+{
+    let Some((index, first, second)) = call(cursor) else {
+        return Err(OpFault::Cut);
+    };
+    if is_dynamic {
+        Ok(Instr::Dynamic(op, index, first, second))
+    } else {
+        Ok(Instr::Interface(op, index, first, second))
+    }
+}
 
 #[tactic(auto, unfolding(crate::specs::Reading::operands_at))]
 fn operands<'a>(cursor: &mut Cursor<'a>, pc: u32, op: u8, form: Form) -> Result<Instr<'a>, OpFault>
@@ -205,32 +329,20 @@ fn operands<'a>(cursor: &mut Cursor<'a>, pc: u32, op: u8, form: Form) -> Result<
 {
     match form {
         Form::Plain => Ok(Instr::Plain(op)),
-        Form::Byte => Ok(Instr::Byte(op, s1(cursor)?)),
-        Form::Short => Ok(Instr::Short(op, s2(cursor)?)),
-        Form::NearConstant => Ok(Instr::Constant(op, u16::from(u1(cursor)?))),
-        Form::Constant => Ok(Instr::Constant(op, u2(cursor)?)),
-        Form::Local => Ok(Instr::Local(op, u16::from(u1(cursor)?))),
-        Form::Iinc => {
-            let (local, amount) = iinc(cursor)?;
-            Ok(Instr::Iinc(op, u16::from(local), i16::from(amount)))
-        }
-        Form::Branch => Ok(Instr::Branch(op, i32::from(s2(cursor)?))),
-        Form::FarBranch => Ok(Instr::Branch(op, s4(cursor)?)),
-        Form::Member => Ok(Instr::Member(op, u2(cursor)?)),
-        Form::Interface => {
-            let (index, count, zero) = call(cursor)?;
-            Ok(Instr::Interface(op, index, count, zero))
-        }
-        Form::Dynamic => {
-            let (index, first, second) = call(cursor)?;
-            Ok(Instr::Dynamic(op, index, first, second))
-        }
-        Form::ClassOf => Ok(Instr::ClassOf(op, u2(cursor)?)),
-        Form::NewArray => Ok(Instr::NewArray(op, u1(cursor)?)),
-        Form::MultiArray => {
-            let (index, dimensions) = dimensions(cursor)?;
-            Ok(Instr::MultiArray(op, index, dimensions))
-        }
+        Form::Byte => byte(cursor, op),
+        Form::Short => of_two(cursor, op, false),
+        Form::NearConstant => near(cursor, op, Named::Constant),
+        Form::Constant => far(cursor, op, Named::Constant),
+        Form::Local => near(cursor, op, Named::Local),
+        Form::Iinc => iinc(cursor, op),
+        Form::Branch => of_two(cursor, op, true),
+        Form::FarBranch => far_branch(cursor, op),
+        Form::Member => far(cursor, op, Named::Member),
+        Form::Interface => of_call(cursor, op, false),
+        Form::Dynamic => of_call(cursor, op, true),
+        Form::ClassOf => far(cursor, op, Named::ClassOf),
+        Form::NewArray => new_array(cursor, op),
+        Form::MultiArray => multi_array(cursor, op),
         Form::TableSwitch => table_switch(cursor, pc, op),
         Form::LookupSwitch => lookup_switch(cursor, pc, op),
         Form::Wide => wide(cursor, op),
@@ -252,7 +364,9 @@ fn behind_opcode<'a>(cursor: &mut Cursor<'a>, pc: u32, op: u8) -> Result<Instr<'
 fn instruction<'a>(cursor: &mut Cursor<'a>, pc: u32) -> Result<Instr<'a>, OpFault>
     ensures { Gives result cursor.new (instruction_at pc cursor.old) }
 {
-    let op = u1(cursor)?;
+    let Some(op) = cursor.u1() else {
+        return Err(OpFault::Cut);
+    };
     behind_opcode(cursor, pc, op)
 }
 

@@ -1,9 +1,9 @@
 //! Writes an instruction.
-ghost use Rattle.std.specs.Prelude.{◌≡◌, ◌++◌, ◌∷◌, ◌/◌, ◌*◌, ◌%◌, ◌^◌, [], length, replicate, OnOk};
+ghost use Rattle.std.specs.Prelude.{◌≡◌, ◌++◌, ◌∷◌, ◌/◌, ◌*◌, ◌%◌, ◌^◌, [], length, replicate, true, OnOk};
 ghost use Rattle.jsa_ops.specs.Opcodes.{form_of as form_at};
 ghost use Rattle.jsa_ops.specs.Instruction.{shown};
 ghost use Rattle.jsa_base.specs.Spelling.{u1 as u1_text, u2 as u2_text, u4 as u4_text};
-ghost use Rattle.jsa_ops.specs.Spelling.{s1 as s1_text, s2 as s2_text, s4 as s4_text, padding, index_text, distance_text, operands as operands_text, text_of, opcode};
+ghost use Rattle.jsa_ops.specs.Spelling.{s1 as s1_text, s2 as s2_text, s4 as s4_text, padding, index_text, distance_text, operands as operands_text, text_of, opcode, is_longer};
 ghost use Rattle.jsa_ops.specs.Places.{DecodesAgain};
 ghost use Rattle.std.specs.Int.{w16, cast_unsigned};
 
@@ -149,33 +149,53 @@ fn put_pairs(out: &mut Vec<u8>, pc: u32, other: i32, pairs: &[u8]) -> Result<(),
     out.extend_from_slice(pairs)
 }
 
+fn put_byte(out: &mut Vec<u8>, byte: u8) -> Result<(), AllocError>
+    ensures { OnOk result (out.new.items ≡ out.old.items ++ byte ∷ []) }
+{
+    out.extend_from_slice(&[byte])
+}
+
+fn put_wide_iinc(out: &mut Vec<u8>, local: u16, amount: i16) -> Result<(), AllocError>
+    ensures { OnOk result (out.new.items ≡ out.old.items ++ (0x84 ∷ (u2_text local ++ s2_text amount))) }
+{
+    put_wide(out, 0x84, local)?;
+    put_s2(out, amount)
+}
+
+// The operands of an instruction that holds more than an index or a local.
+fn put_longer(out: &mut Vec<u8>, pc: u32, instr: &Instr<'_>) -> Result<(), AllocError>
+    ensures { is_longer (shown instr.now) ≡ true → OnOk result (out.new.items ≡ out.old.items ++ operands_text (replicate (padding pc) 0) (shown instr.now)) }
+{
+    match *instr {
+        Instr::Interface(_, index, count, zero) => put_call(out, index, count, zero),
+        Instr::Dynamic(_, index, first, second) => put_call(out, index, first, second),
+        Instr::MultiArray(_, index, dimensions) => put_dimensions(out, index, dimensions),
+        Instr::TableSwitch(_, other, low, high, distances) => {
+            put_table(out, pc, other, low, high, distances)
+        }
+        Instr::LookupSwitch(_, other, pairs) => put_pairs(out, pc, other, pairs),
+        _ => Ok(()),
+    }
+}
+
 // The operands of an instruction at a place.
 fn put_operands(out: &mut Vec<u8>, pc: u32, instr: &Instr<'_>) -> Result<(), AllocError>
     ensures { OnOk result (out.new.items ≡ out.old.items ++ operands_text (replicate (padding pc) 0) (shown instr.now)) }
 {
-    match instr {
+    match *instr {
         Instr::Plain(_) => Ok(()),
-        Instr::Byte(_, value) => put_s1(out, *value),
-        Instr::Short(_, value) => put_s2(out, *value),
-        Instr::Constant(op, index) => put_index(out, *op, *index),
-        Instr::Local(_, local) => out.extend_from_slice(&[(*local % 256) as u8]),
-        Instr::Iinc(_, local, amount) => put_iinc(out, *local, *amount),
-        Instr::Wide(_, code, local) => put_wide(out, *code, *local),
-        Instr::WideIinc(_, local, amount) => {
-            put_wide(out, 0x84, *local)?;
-            put_s2(out, *amount)
-        }
-        Instr::Branch(op, distance) => put_distance(out, *op, *distance),
-        Instr::Member(_, index) => put_u2(out, *index),
-        Instr::Interface(_, index, count, zero) => put_call(out, *index, *count, *zero),
-        Instr::Dynamic(_, index, first, second) => put_call(out, *index, *first, *second),
-        Instr::ClassOf(_, index) => put_u2(out, *index),
-        Instr::NewArray(_, code) => out.extend_from_slice(&[*code]),
-        Instr::MultiArray(_, index, dimensions) => put_dimensions(out, *index, *dimensions),
-        Instr::TableSwitch(_, other, low, high, distances) => {
-            put_table(out, pc, *other, *low, *high, distances)
-        }
-        Instr::LookupSwitch(_, other, pairs) => put_pairs(out, pc, *other, pairs),
+        Instr::Byte(_, value) => put_s1(out, value),
+        Instr::Short(_, value) => put_s2(out, value),
+        Instr::Constant(op, index) => put_index(out, op, index),
+        Instr::Local(_, local) => put_byte(out, (local % 256) as u8),
+        Instr::Iinc(_, local, amount) => put_iinc(out, local, amount),
+        Instr::Wide(_, code, local) => put_wide(out, code, local),
+        Instr::WideIinc(_, local, amount) => put_wide_iinc(out, local, amount),
+        Instr::Branch(op, distance) => put_distance(out, op, distance),
+        Instr::Member(_, index) => put_u2(out, index),
+        Instr::ClassOf(_, index) => put_u2(out, index),
+        Instr::NewArray(_, code) => put_byte(out, code),
+        _ => put_longer(out, pc, instr),
     }
 }
 
