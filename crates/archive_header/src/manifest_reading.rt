@@ -145,6 +145,13 @@ fn some_folders(alloc: Global, count: u32, cursor: &mut Cursor<'_>) -> Result<It
     Ok(folders)
 }
 
+// Lets go of a folder, and hands on why nothing is read.
+fn leave(_folder: Option<Folder>, unread: Unread) -> Unread
+    ensures { result ≡ unread }
+{
+    unread
+}
+
 #[tactic(auto, unfolding(crate::specs::ManifestBytes::folders_at))]
 fn folders(alloc: Global, cursor: &mut Cursor<'_>) -> Result<Folders, Unread>
     ensures { Gives result cursor.new (spec.folders_at cursor.old) }
@@ -153,13 +160,18 @@ fn folders(alloc: Global, cursor: &mut Cursor<'_>) -> Result<Folders, Unread>
     let platforms = low_u4(cursor)?;
     let apps = low_u4(cursor)?;
     let boot = one_or_none(alloc, boots, cursor)?;
-    let platform = one_or_none(alloc, platforms, cursor)?;
-    let app = some_folders(alloc, apps, cursor)?;
-    Ok(Folders {
-        boot,
-        platform,
-        app,
-    })
+    let platform = match one_or_none(alloc, platforms, cursor) {
+        Ok(platform) => platform,
+        Err(unread) => return Err(leave(boot, unread)),
+    };
+    match some_folders(alloc, apps, cursor) {
+        Ok(app) => Ok(Folders {
+            boot,
+            platform,
+            app,
+        }),
+        Err(unread) => Err(leave(boot, leave(platform, unread))),
+    }
 }
 
 fn are_zeros(rest: &[u8]) -> bool

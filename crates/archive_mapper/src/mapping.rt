@@ -22,6 +22,13 @@ fn change(kept: &Manifest, now: Option<&Manifest>) -> Option<u32>
     }
 }
 
+// The same of a manifest that isn't kept any longer.
+fn change_from(kept: Manifest, now: Option<&Manifest>) -> Option<u32>
+    ensures { HasChange kept (option_copied now.entry) result }
+{
+    change(&kept, now)
+}
+
 // Maps an archive whose digests and whose layer are right.
 fn map_parts(
     alloc: Global,
@@ -48,7 +55,7 @@ fn map_parts(
     let Some(kept) = kept else {
         return Err(Refuse::Malformed);
     };
-    match change(&kept, now) {
+    match change_from(kept, now) {
         Some(number) => Err(Refuse::Path(number)),
         None => Ok(classes),
     }

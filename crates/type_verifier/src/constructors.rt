@@ -1,5 +1,5 @@
 //! invokespecial: constructors, and methods of classes above (JVMS 4.10.1.9).
-ghost use Rattle.std.specs.Prelude.{◌≡◌, ◌||◌, ℕ, Some, None, MatchOption, OnOk};
+ghost use Rattle.std.specs.Prelude.{◌≡◌, ◌∷◌, ◌||◌, ℕ, Some, None, MatchOption, OnOk};
 ghost use Rattle.std.specs.List.{list_any};
 ghost use Rattle.std.specs.Option.{option_copied};
 ghost use Rattle.std.specs.Str.{bytes_eq};
@@ -241,6 +241,20 @@ fn constructor_test(
     }
 }
 
+// Takes the parameters, and the object below them.
+fn all_taken(
+    alloc: Global,
+    asks: &mut Items<Ask>,
+    types: Items<VType>,
+    object: &VType,
+    stack: &mut TypeStack,
+) -> Result<(), Stop>
+    ensures { Did (calls.took (object.now ∷ types) stack.old) asks.old asks.new result stack.new }
+{
+    let wanted = behind(alloc, copied(alloc, object)?, types)?;
+    took(alloc, asks, wanted.as_slice(), stack)
+}
+
 // The parameters are taken, then the object below them.
 fn constructed_on(
     alloc: Global,
@@ -249,14 +263,13 @@ fn constructed_on(
     m: &Member<'_>,
     types: Items<VType>,
     old: Unfinished,
-    object: VType,
+    object: &VType,
     frame: &mut Frame,
 ) -> Result<(), Stop>
-    ensures { (t : JavaMethod) → types ≡ vtypes_of t.parameters → Did (calls.constructed_on e.now m.now t (Some old) object frame.old) asks.old asks.new result frame.new }
+    ensures { (t : JavaMethod) → types ≡ vtypes_of t.parameters → Did (calls.constructed_on e.now m.now t (Some old) object.now frame.old) asks.old asks.new result frame.new }
 {
-    let wanted = behind(alloc, copied(alloc, &object)?, types)?;
-    took(alloc, asks, wanted.as_slice(), &mut frame.stack)?;
-    constructor_test(alloc, asks, e, m, old, &object)?;
+    all_taken(alloc, asks, types, object, &mut frame.stack)?;
+    constructor_test(alloc, asks, e, m, old, object)?;
     finish(alloc, e, m, old, frame)?;
     Ok(())
 }
@@ -279,7 +292,7 @@ fn constructor_typed(
         return Err(Stop::Fault(Cause::Mismatch));
     };
     let object = copied(alloc, object)?;
-    constructed_on(alloc, asks, e, m, types, old, object, frame)
+    constructed_on(alloc, asks, e, m, types, old, &object, frame)
 }
 
 fn constructor_named(

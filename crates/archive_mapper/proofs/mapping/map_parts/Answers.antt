@@ -27,15 +27,15 @@ returns-in_default-kept c =
     let regions = split_regions c.args.bytes.now c.args.header.now c.body.result.now c.split_at.result.0.now c.split_at.result.1.now c.body.ensures c.split_at.ensures.front c.split_at.ensures.back in
     no_manifest c.args.bytes.now c.args.header.now c.split_at.result.0.now c.split_at.result.1.now c.requires regions (λ kept good. sym c.in_default-kept.is ∙ c.in-Ok-manifest_in.ensures.only kept good)
 
-pub returns-in-Some-change : goal.returns-in-Some-change
-returns-in-Some-change c =
+pub returns-in-Some-change_from : goal.returns-in-Some-change_from
+returns-in-Some-change_from c =
     let plain : is_plain c.args.bytes.now c.args.header.now ≡ true = sym c.is_plain.ensures.plain ∙ c.if-not-is_plain.false in
     let regions = split_regions c.args.bytes.now c.args.header.now c.body.result.now c.split_at.result.0.now c.split_at.result.1.now c.body.ensures c.split_at.ensures.front c.split_at.ensures.back in
     let classes = rw c.in-Some.is at c.in-Ok.ensures.found in
     let kept = rw c.in-Some-kept.is at c.in-Ok-manifest_in.ensures.found in
-    has_changed c.args.bytes.now _ c.in-Some.classes c.in-Some-kept.kept c.in-Some-change.number
+    has_changed c.args.bytes.now _ c.in-Some.classes c.in-Some-kept.kept c.in-Some-change_from.number
     (parts_are c.args.bytes.now c.args.header.now c.split_at.result.0.now c.split_at.result.1.now c.in-Some.classes c.in-Some-kept.kept c.requires plain c.is_plain.ensures.fits regions classes kept)
-    c.in-Some-change.ensures
+    c.in-Some-change_from.ensures
 
 pub returns-in-None : goal.returns-in-None
 returns-in-None c =
