@@ -13,11 +13,6 @@ use Rattle.jsa_ops.specs.declared.instr.Instr.{Instr}
 use Rattle.jsa_ops.specs.Instruction.{shown, Instruction, Plain, Byte, Short, Constant, Local, Iinc, Wide, WideIinc, Branch, Member, Interface, Dynamic, ClassOf, NewArray, MultiArray, TableSwitch, LookupSwitch}
 use Rattle.jsa_ops.specs.Spelling.{padding, span, keys, ascend}
 
--- What a function gives of some operands, seen by view, and the bytes that are left; Cut where they are not all there.
-abbrev pub GivesPart : {X Y : Type 0} → (X → Y) → Result X OpFault → List ℕ → Read Y → Type 0
-GivesPart view (Ok x) left read = read ≡ Some (view x, left)
-GivesPart view (Err e) left read = (e ≡ Cut) × (read ≡ None)
-
 -- what a function gives that reads an instruction
 abbrev pub Gives : Result Instr OpFault → List ℕ → Result (Instruction × List ℕ) OpFault → Type 0
 Gives (Ok i) left read = read ≡ Ok (shown i, left)
