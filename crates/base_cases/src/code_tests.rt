@@ -1,69 +1,10 @@
 // A code that holds each instruction, the table of opcodes as other crates expand it, and what stands at a place of small codes.
-use crate::listing::{answer, say_code, table_rows};
+use crate::listing::{answer, say_code, say_table};
 use crate::rows::{first_word, say_number, wrong_rows};
-use crate::test_bytes::{byte_of, is_byte};
-use jsa_ops::{Instr, OpFault, answers_are_exact, behind_is_unread, cut_goes_on, form_of, write};
+use crate::test_bytes::{are_bytes, hexadecimal};
+use jsa_ops::{Instr, OpFault, answers_are_exact, behind_is_unread, cut_goes_on, write};
 use std::alloc::{AllocError, Global};
 use std::test::Fail;
-
-fn is_number(alloc: Global, byte: u8, text: &str) -> Result<bool, AllocError> {
-    let number = format!(in alloc; "{byte}")?;
-    Ok(number.as_str() == text)
-}
-
-fn is_form(alloc: Global, byte: u8, text: &str) -> Result<bool, AllocError> {
-    let shown = format!(in alloc; "{:?}", form_of(byte))?;
-    let form = shown.as_str().strip_prefix("Some(").unwrap_or("");
-    Ok(form.strip_suffix(')').unwrap_or("") == text)
-}
-
-// Whether a row has this byte and its form.
-fn has_row(alloc: Global, row: &str, byte: u8) -> Result<bool, AllocError> {
-    let (code, words) = first_word(row);
-    let (_, form) = words.rsplit_once(' ').unwrap_or((words, "no form"));
-    if !is_number(alloc, byte, code)? {
-        return Ok(false);
-    }
-    is_form(alloc, byte, form)
-}
-
-// How many rows of the table, in their order, are those of the bytes from 0 on.
-fn held_rows(alloc: Global, rows: &[&'static str]) -> Result<u64, AllocError> {
-    let mut count = 0u64;
-    for byte in 0..=255u8 {
-        if let Some(row) = rows.get(usize::from(byte)) {
-            if has_row(alloc, row, byte)? {
-                count = count.saturating_add(1);
-            }
-        }
-    }
-    Ok(count)
-}
-
-// The bytes from 202 on that have no form.
-fn formless() -> u64 {
-    let mut count = 0u64;
-    for byte in 202..=255u8 {
-        if form_of(byte).is_none() {
-            count = count.saturating_add(1);
-        }
-    }
-    count
-}
-
-// How many rows there are, how many of them are right, and how many bytes behind them have no form.
-fn say_rows(alloc: Global, rows: &[&'static str], said: &mut String) -> Result<(), AllocError> {
-    say_number(alloc, rows.len() as u64, said)?;
-    said.push_str(" ")?;
-    say_number(alloc, held_rows(alloc, rows)?, said)?;
-    said.push_str(" ")?;
-    say_number(alloc, formless(), said)
-}
-
-fn say_table(alloc: Global, said: &mut String) -> Result<(), AllocError> {
-    let rows = table_rows(alloc)?;
-    say_rows(alloc, rows.as_slice(), said)
-}
 
 // A write of bipush -128.
 fn say_bipush(alloc: Global, said: &mut String) -> Result<(), AllocError> {
@@ -110,44 +51,14 @@ fn say_all_widened(alloc: Global, said: &mut String) -> Result<(), AllocError> {
     Ok(())
 }
 
-fn are_bytes(words: &str) -> bool {
-    words.split(' ').all(is_byte)
-}
-
-fn bytes_of(alloc: Global, words: &str) -> Result<Vec<u8>, AllocError> {
-    let mut bytes = Vec::new(alloc);
-    for word in words.split(' ') {
-        bytes.push(byte_of(word))?;
-    }
-    Ok(bytes)
-}
-
-fn say_instr(
-    alloc: Global,
-    instr: &Instr<'_>,
-    next: u32,
-    said: &mut String,
-) -> Result<(), AllocError> {
-    let text = format!(in alloc; "{instr:?} to {next}")?;
-    said.push_str(text.as_str())
-}
-
-fn say_fault(alloc: Global, fault: OpFault, said: &mut String) -> Result<(), AllocError> {
-    let text = format!(in alloc; "{fault:?}")?;
-    said.push_str(text.as_str())
-}
-
 fn say_answer(
     alloc: Global,
     code: &[u8],
     place: usize,
     said: &mut String,
 ) -> Result<(), AllocError> {
-    match answer(code, place) {
-        Some(Ok((instr, next))) => say_instr(alloc, &instr, next, said),
-        Some(Err(fault)) => say_fault(alloc, fault, said),
-        None => said.push_str("no place"),
-    }
+    let text = format!(in alloc; "{:?}", answer(code, place))?;
+    said.push_str(text.as_str())
 }
 
 // What stands at the place of a code, whose bytes are written as hexadecimal digits.
@@ -156,7 +67,7 @@ fn say_at(alloc: Global, words: &str, said: &mut String) -> Result<(), AllocErro
     if !are_bytes(words) {
         return said.push_str("no bytes");
     }
-    let code = bytes_of(alloc, words)?;
+    let code = hexadecimal(alloc, words)?;
     match place.parse::<usize>() {
         Ok(place) => say_answer(alloc, code.as_slice(), place, said),
         Err(_) => said.push_str("no place"),
@@ -181,33 +92,33 @@ pub fn say(alloc: Global, call: &str, said: &mut String) -> Result<(), AllocErro
 // stores with a written local, ret and iinc; and switches at place 3, which have no padding.
 static ROWS: &str = "code read = as javap reads it
 code again = as javap reads it
-table all = 202 202 54
-at 0 10 80 = Byte(16, -128) to 2
-at 0 ff = BadOpcode(255)
-at 0 11 01 = Cut
+table all = 202 rows of all forms
+at 0 10 80 = Some(Ok((Byte(16, -128), 2)))
+at 0 ff = Some(Err(BadOpcode(255)))
+at 0 11 01 = Some(Err(Cut))
 write bipush = Ok(()) [16, 128]
 nameless bytes = 54
 widened bytes = +21+22+23+24+25+54+55+56+57+58+132+169
-at 0 c4 = Cut
-at 0 c4 00 = BadOpcode(0)
-at 3 00 00 00 aa 00 00 00 00 00 00 00 01 00 00 00 00 = BadOperand
-at 3 00 00 00 aa 00 00 00 00 00 00 00 00 ff ff ff ff = BadOperand
-at 3 00 00 00 aa 00 00 00 00 7f ff ff ff 80 00 00 00 = BadOperand
-at 3 00 00 00 aa 00 00 00 00 00 00 00 01 00 00 00 00 00 00 00 00 = BadOperand
-at 3 00 00 00 aa 00 00 00 00 00 00 00 01 00 00 00 = Cut
-at 3 00 00 00 aa 00 00 00 00 00 00 00 00 7f ff ff ff 00 00 00 00 = Cut
-at 3 00 00 00 aa 00 00 00 00 80 00 00 00 7f ff ff ff 00 00 00 00 = Cut
-at 3 00 00 00 aa 00 00 00 00 00 00 00 05 00 00 00 05 00 00 00 00 = TableSwitch(170, 0, 5, 5, [0, 0, 0, 0]) to 20
-at 3 00 00 00 ab 00 00 00 00 00 00 00 00 = LookupSwitch(171, 0, []) to 12
-at 3 00 00 00 ab 00 00 00 00 80 00 00 00 = BadOperand
-at 3 00 00 00 ab 00 00 00 00 ff ff ff ff = BadOperand
-at 3 00 00 00 ab 00 00 00 00 ff ff ff = Cut
-at 3 00 00 00 ab 00 00 00 00 7f ff ff ff 00 00 00 00 00 00 00 00 = Cut
-at 3 00 00 00 ab 00 00 00 00 00 00 00 02 00 00 00 07 00 00 00 00 00 00 00 07 00 00 00 00 = BadOperand
-at 3 00 00 00 ab 00 00 00 00 00 00 00 02 00 00 00 00 00 00 00 00 ff ff ff ff 00 00 00 00 = BadOperand
-at 3 00 00 00 ab 00 00 00 00 00 00 00 03 00 00 00 00 00 00 00 00 00 00 00 09 00 00 00 00 00 00 00 08 00 00 00 00 = BadOperand
-at 3 00 00 00 ab 00 00 00 00 00 00 00 02 00 00 00 07 00 00 00 00 00 00 00 07 00 00 00 = Cut
-at 3 00 00 00 ab 00 00 00 00 00 00 00 02 ff ff ff ff 00 00 00 00 00 00 00 00 00 00 00 00 = LookupSwitch(171, 0, [255, 255, 255, 255, 0, 0, 0, 0, 0, 0, 0, 0, 0, 0, 0, 0]) to 28";
+at 0 c4 = Some(Err(Cut))
+at 0 c4 00 = Some(Err(BadOpcode(0)))
+at 3 00 00 00 aa 00 00 00 00 00 00 00 01 00 00 00 00 = Some(Err(BadOperand))
+at 3 00 00 00 aa 00 00 00 00 00 00 00 00 ff ff ff ff = Some(Err(BadOperand))
+at 3 00 00 00 aa 00 00 00 00 7f ff ff ff 80 00 00 00 = Some(Err(BadOperand))
+at 3 00 00 00 aa 00 00 00 00 00 00 00 01 00 00 00 00 00 00 00 00 = Some(Err(BadOperand))
+at 3 00 00 00 aa 00 00 00 00 00 00 00 01 00 00 00 = Some(Err(Cut))
+at 3 00 00 00 aa 00 00 00 00 00 00 00 00 7f ff ff ff 00 00 00 00 = Some(Err(Cut))
+at 3 00 00 00 aa 00 00 00 00 80 00 00 00 7f ff ff ff 00 00 00 00 = Some(Err(Cut))
+at 3 00 00 00 aa 00 00 00 00 00 00 00 05 00 00 00 05 00 00 00 00 = Some(Ok((TableSwitch(170, 0, 5, 5, [0, 0, 0, 0]), 20)))
+at 3 00 00 00 ab 00 00 00 00 00 00 00 00 = Some(Ok((LookupSwitch(171, 0, []), 12)))
+at 3 00 00 00 ab 00 00 00 00 80 00 00 00 = Some(Err(BadOperand))
+at 3 00 00 00 ab 00 00 00 00 ff ff ff ff = Some(Err(BadOperand))
+at 3 00 00 00 ab 00 00 00 00 ff ff ff = Some(Err(Cut))
+at 3 00 00 00 ab 00 00 00 00 7f ff ff ff 00 00 00 00 00 00 00 00 = Some(Err(Cut))
+at 3 00 00 00 ab 00 00 00 00 00 00 00 02 00 00 00 07 00 00 00 00 00 00 00 07 00 00 00 00 = Some(Err(BadOperand))
+at 3 00 00 00 ab 00 00 00 00 00 00 00 02 00 00 00 00 00 00 00 00 ff ff ff ff 00 00 00 00 = Some(Err(BadOperand))
+at 3 00 00 00 ab 00 00 00 00 00 00 00 03 00 00 00 00 00 00 00 00 00 00 00 09 00 00 00 00 00 00 00 08 00 00 00 00 = Some(Err(BadOperand))
+at 3 00 00 00 ab 00 00 00 00 00 00 00 02 00 00 00 07 00 00 00 00 00 00 00 07 00 00 00 = Some(Err(Cut))
+at 3 00 00 00 ab 00 00 00 00 00 00 00 02 ff ff ff ff 00 00 00 00 00 00 00 00 00 00 00 00 = Some(Ok((LookupSwitch(171, 0, [255, 255, 255, 255, 0, 0, 0, 0, 0, 0, 0, 0, 0, 0, 0, 0]), 28)))";
 
 #[test]
 fn codes_are_read_and_written_as_the_standard_has_them(rt: HostRuntime) -> Result<(), Fail> {

@@ -1,8 +1,8 @@
 // A code as it is read, cut within each of its instructions and written again, and the table of opcodes.
 use crate::rows::say_number;
-use crate::test_bytes::byte_of;
+use crate::test_bytes::hexadecimal;
 use crate::test_code::{CODE, LISTING};
-use jsa_ops::{Instr, OpFault, decode, is_unsupported, write};
+use jsa_ops::{Instr, OpFault, decode, form_of, is_unsupported, write};
 use std::alloc::{AllocError, Global};
 
 // A line for each opcode: its byte, its mnemonic, its variant and its form.
@@ -14,43 +14,67 @@ macro_rules! row_lines {
     };
 }
 
-fn table() -> [&'static str; 7] {
-    [
-        jsa_ops::opcodes!(constants row_lines),
-        jsa_ops::opcodes!(loads row_lines),
-        jsa_ops::opcodes!(stores row_lines),
-        jsa_ops::opcodes!(math row_lines),
-        jsa_ops::opcodes!(tests row_lines),
-        jsa_ops::opcodes!(jumps row_lines),
-        jsa_ops::opcodes!(objects row_lines),
-    ]
+// A line for each opcode: its byte and its form, as it is shown where a byte has one.
+macro_rules! form_lines {
+    ([] $($last:literal $variant:ident $form:ident: $($code:literal $name:literal),*;)*) => {
+        concat!($($($code, " Some(", stringify!($form), ")\n",)*)*)
+    };
 }
 
-fn push_lines(part: &'static str, rows: &mut Vec<&'static str>) -> Result<(), AllocError> {
-    for line in part.lines() {
-        rows.push(line)?;
-    }
-    Ok(())
+// Puts the parts of the table together, and hands them to a macro.
+macro_rules! whole {
+    ([$lines:ident {$($before:tt)*}] $($rows:tt)*) => {
+        $lines! { [] $($before)* $($rows)* }
+    };
+    ([$lines:ident $next:ident $($more:ident)* {$($before:tt)*}] $($rows:tt)*) => {
+        jsa_ops::opcodes!($next whole $lines $($more)* {$($before)* $($rows)*})
+    };
 }
 
-// The lines of the table, by opcode.
-pub fn table_rows(alloc: Global) -> Result<Vec<&'static str>, AllocError> {
-    let mut rows = Vec::new(alloc);
-    for part in table() {
-        push_lines(part, &mut rows)?;
-    }
-    Ok(rows)
-}
+static TABLE: &str =
+    jsa_ops::opcodes!(constants whole row_lines loads stores math tests jumps objects {});
+
+static FORMS: &str =
+    jsa_ops::opcodes!(constants whole form_lines loads stores math tests jumps objects {});
 
 // A word of an opcode's row.
-fn word(rows: &[&'static str], opcode: &str, at: usize) -> &'static str {
+fn word(opcode: &str, at: usize) -> &'static str {
     let Ok(opcode) = opcode.parse::<usize>() else {
         return "no opcode";
     };
-    match rows.get(opcode) {
+    match TABLE.lines().nth(opcode) {
         Some(row) => row.split(' ').nth(at).unwrap_or("no word"),
         None => "no row",
     }
+}
+
+// The bytes that have a form, each with its form, as the table has them.
+fn say_form(alloc: Global, byte: u8, said: &mut String) -> Result<(), AllocError> {
+    let form = form_of(byte);
+    if form.is_none() {
+        return Ok(());
+    }
+    let text = format!(in alloc; "{byte} {form:?}\n")?;
+    said.push_str(text.as_str())
+}
+
+fn forms(alloc: Global) -> Result<String, AllocError> {
+    let mut forms = String::new(alloc);
+    for byte in 0..=255u8 {
+        say_form(alloc, byte, &mut forms)?;
+    }
+    Ok(forms)
+}
+
+// How many rows the table has, and whether the bytes that have a form are those of the rows, with their forms.
+pub fn say_table(alloc: Global, said: &mut String) -> Result<(), AllocError> {
+    let forms = forms(alloc)?;
+    say_number(alloc, TABLE.lines().count() as u64, said)?;
+    said.push_str(if forms.as_str() == FORMS {
+        " rows of all forms"
+    } else {
+        " rows of other forms"
+    })
 }
 
 type Answer<'a> = Result<(Instr<'a>, u32), OpFault>;
@@ -143,12 +167,12 @@ fn say_numbers(numbers: &str, said: &mut String) -> Result<(), AllocError> {
 }
 
 // The mnemonic, and of an instruction behind wide that of the opcode there.
-fn name_of(rows: &[&'static str], shown: &str) -> &'static str {
+fn name_of(shown: &str) -> &'static str {
     let (opcode, numbers) = first_number(numbers_in(shown));
     match variant_in(shown) {
-        "Wide" => word(rows, first_number(numbers).0, 1),
+        "Wide" => word(first_number(numbers).0, 1),
         "WideIinc" => "iinc",
-        _ => word(rows, opcode, 1),
+        _ => word(opcode, 1),
     }
 }
 
@@ -169,18 +193,18 @@ fn ending(variant: &str) -> &'static str {
     }
 }
 
-fn say_shown(rows: &[&'static str], shown: &str, said: &mut String) -> Result<(), AllocError> {
-    said.push_str(name_of(rows, shown))?;
+fn say_shown(shown: &str, said: &mut String) -> Result<(), AllocError> {
+    said.push_str(name_of(shown))?;
     said.push_str(ending(variant_in(shown)))?;
     say_numbers(operands_in(shown), said)
 }
 
 // Whether the variant is the row's, or wide's where iinc stands behind it.
-fn has_variant(rows: &[&'static str], shown: &str) -> bool {
+fn has_variant(shown: &str) -> bool {
     let (opcode, _) = first_number(numbers_in(shown));
     match variant_in(shown) {
-        "WideIinc" => word(rows, opcode, 2) == "Wide",
-        variant => variant == word(rows, opcode, 2),
+        "WideIinc" => word(opcode, 2) == "Wide",
+        variant => variant == word(opcode, 2),
     }
 }
 
@@ -196,25 +220,19 @@ fn is_float_name(name: &str) -> bool {
 // The mnemonic and the operands, and what is wrong with the variant or with what is supported.
 fn say_line(
     alloc: Global,
-    rows: &[&'static str],
     instr: &Instr<'_>,
     shown: &str,
     said: &mut String,
 ) -> Result<(), AllocError> {
-    say_shown(rows, shown, said)?;
+    say_shown(shown, said)?;
     say_quads(alloc, list(instr), said)?;
-    let support = is_unsupported(instr) == is_float_name(name_of(rows, shown));
-    said.push_str(faults_of(has_variant(rows, shown), support))
+    let support = is_unsupported(instr) == is_float_name(name_of(shown));
+    said.push_str(faults_of(has_variant(shown), support))
 }
 
-fn say_instr(
-    alloc: Global,
-    rows: &[&'static str],
-    instr: &Instr<'_>,
-    said: &mut String,
-) -> Result<(), AllocError> {
+fn say_instr(alloc: Global, instr: &Instr<'_>, said: &mut String) -> Result<(), AllocError> {
     let shown = format!(in alloc; "{instr:?}")?;
-    say_line(alloc, rows, instr, shown.as_str(), said)
+    say_line(alloc, instr, shown.as_str(), said)
 }
 
 fn faults_of(variant: bool, support: bool) -> &'static str {
@@ -244,7 +262,6 @@ fn say_front(
 // The line of the instruction at a place, and the next place.
 fn say_place(
     alloc: Global,
-    rows: &[&'static str],
     code: &[u8],
     place: usize,
     said: &mut String,
@@ -255,20 +272,15 @@ fn say_place(
     };
     let next = next as usize;
     say_front(alloc, code, place, next, said)?;
-    say_instr(alloc, rows, &instr, said)?;
+    say_instr(alloc, &instr, said)?;
     Ok(next)
 }
 
-fn say_places(
-    alloc: Global,
-    rows: &[&'static str],
-    code: &[u8],
-    said: &mut String,
-) -> Result<(), AllocError> {
+fn say_places(alloc: Global, code: &[u8], said: &mut String) -> Result<(), AllocError> {
     let mut place = 0;
     for _ in 0..code.len() {
         if place < code.len() {
-            place = say_place(alloc, rows, code, place, said)?;
+            place = say_place(alloc, code, place, said)?;
         }
     }
     Ok(())
@@ -276,25 +288,9 @@ fn say_places(
 
 // A line for each instruction of a code: its place, its mnemonic and its operands.
 fn listing(alloc: Global, code: &[u8]) -> Result<String, AllocError> {
-    let rows = table_rows(alloc)?;
     let mut said = String::new(alloc);
-    say_places(alloc, rows.as_slice(), code, &mut said)?;
+    say_places(alloc, code, &mut said)?;
     Ok(said)
-}
-
-fn push_line(line: &str, code: &mut Vec<u8>) -> Result<(), AllocError> {
-    for digits in line.split(' ') {
-        code.push(byte_of(digits))?;
-    }
-    Ok(())
-}
-
-fn code(alloc: Global) -> Result<Vec<u8>, AllocError> {
-    let mut code = Vec::new(alloc);
-    for line in CODE.lines() {
-        push_line(line, &mut code)?;
-    }
-    Ok(code)
 }
 
 // Writes the instruction at a place of the code behind those before it.
@@ -345,7 +341,7 @@ fn say_again(alloc: Global, code: &[u8], said: &mut String) -> Result<(), AllocE
 
 // How the code is read, or the code that is written again of what was read.
 pub fn say_code(alloc: Global, which: &str, said: &mut String) -> Result<(), AllocError> {
-    let code = code(alloc)?;
+    let code = hexadecimal(alloc, CODE)?;
     match which {
         "again" => say_again(alloc, code.as_slice(), said),
         _ => say_listing(alloc, code.as_slice(), said),

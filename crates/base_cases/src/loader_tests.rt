@@ -126,20 +126,16 @@ fn say_reads(alloc: Global, files: &MemoryFiles, said: &mut String) -> Result<()
     say_number(alloc, files.reads().len() as u64, said)
 }
 
-// A name, a loader and the paths of a store, and for a verb but `find` how many files were read.
+// A name, a loader and the paths of a store: what is found, and how many files were read.
 fn say_search(
     alloc: Global,
     files: &mut MemoryFiles,
-    verb: &str,
     words: &str,
     said: &mut String,
 ) -> Result<(), AllocError> {
     let (name, words) = words.split_once('|').unwrap_or((words, ""));
     let (from, _) = words.split_once('|').unwrap_or((words, ""));
     say_name(alloc, files, name, from, said)?;
-    if verb == "find" {
-        return Ok(());
-    }
     say_reads(alloc, files, said)
 }
 
@@ -156,7 +152,7 @@ fn say_store(alloc: Global, verb: &str, words: &str, said: &mut String) -> Resul
     let mut files = MemoryFiles::new(alloc);
     let (_, paths) = words.rsplit_once('|').unwrap_or((words, ""));
     match prepare(&mut files, verb, paths) {
-        Ok(()) => say_search(alloc, &mut files, verb, words, said),
+        Ok(()) => say_search(alloc, &mut files, words, said),
         Err(fault) => said.push_str(fault_word(fault)),
     }
 }
@@ -175,7 +171,7 @@ fn package_word(words: &str) -> &'static str {
 pub fn say(alloc: Global, call: &str, said: &mut String) -> Result<(), AllocError> {
     let (verb, words) = first_word(call);
     match verb {
-        "find" | "reads" | "third-fails" => say_store(alloc, verb, words, said),
+        "find" | "third-fails" => say_store(alloc, verb, words, said),
         "paths" => say_paths(alloc, words, said),
         "package" => said.push_str(package_word(words)),
         _ => said.push_str("no call"),
@@ -185,39 +181,39 @@ pub fn say(alloc: Global, call: &str, said: &mut String) -> Result<(), AllocErro
 // Each name is found in the first folder that is asked and has it; a name that no path can have (no bytes, bytes that are no
 // text, U+0000, half of a pair) nowhere; a failed read ends the search, and the found file alone is read; there is one boot and
 // one platform folder at most; a package is one of a loader.
-static ROWS: &str = "find Mine|app|y/Mine.class = app 3 y/Mine.class
-find A|boot|b/A.class p/A.class x/A.class = boot 0 b/A.class
-find A|platform|b/A.class p/A.class x/A.class = boot 0 b/A.class
-find A|app|b/A.class p/A.class x/A.class = boot 0 b/A.class
-find A|platform|p/A.class x/A.class = platform 1 p/A.class
-find A|app|p/A.class x/A.class = platform 1 p/A.class
-find A|app|x/A.class y/A.class z/A.class = app 2 x/A.class
-find A|app|y/A.class z/A.class = app 3 y/A.class
-find A|app|z/A.class = app 4 z/A.class
-find q/A|app|A.class x/A.class x/q/A.class = app 2 x/q/A.class
-find java/lang/Mine|app|b/java/lang/Mine.class x/java/lang/Mine.class = boot 0 b/java/lang/Mine.class
-find java/lang/Mine|boot|b/java/lang/Mine.class = boot 0 b/java/lang/Mine.class
-find java|app|x/java.class = app 2 x/java.class
-find javax/A|app|x/javax/A.class = app 2 x/javax/A.class
-find Java/A|platform|p/Java/A.class = platform 1 p/Java/A.class
-find A|app| = none
-find A|app|A.class x/B.class x/A.classes w/A.class = none
-find A|boot|p/A.class x/A.class = none
-find A|platform|x/A.class y/A.class = none
-find java/lang/Mine|app|x/java/lang/Mine.class = none
-find java/lang/Mine|app|p/java/lang/Mine.class y/java/lang/Mine.class = none
-find java/lang/Mine|platform|p/java/lang/Mine.class = none
-find a//b|app|x/a//b.class = none
-find /A|app|x//A.class = none
-find a.b|app|x/a.b.class = none
-find a;b|app|x/a;b.class = none
-find [A|app|x/[A.class = none
-find |app|x/.class = none
-find \\ff|app|x/.class = none
-find \\c0.80|app|x/.class = none
-find \\ed.a0.80|app|x/.class = none
+static ROWS: &str = "find Mine|app|y/Mine.class = app 3 y/Mine.class, read 1
+find A|boot|b/A.class p/A.class x/A.class = boot 0 b/A.class, read 1
+find A|platform|b/A.class p/A.class x/A.class = boot 0 b/A.class, read 1
+find A|app|b/A.class p/A.class x/A.class = boot 0 b/A.class, read 1
+find A|platform|p/A.class x/A.class = platform 1 p/A.class, read 1
+find A|app|p/A.class x/A.class = platform 1 p/A.class, read 1
+find A|app|x/A.class y/A.class z/A.class = app 2 x/A.class, read 1
+find A|app|y/A.class z/A.class = app 3 y/A.class, read 1
+find A|app|z/A.class = app 4 z/A.class, read 1
+find q/A|app|A.class x/A.class x/q/A.class = app 2 x/q/A.class, read 1
+find java/lang/Mine|app|b/java/lang/Mine.class x/java/lang/Mine.class = boot 0 b/java/lang/Mine.class, read 1
+find java/lang/Mine|boot|b/java/lang/Mine.class = boot 0 b/java/lang/Mine.class, read 1
+find java|app|x/java.class = app 2 x/java.class, read 1
+find javax/A|app|x/javax/A.class = app 2 x/javax/A.class, read 1
+find Java/A|platform|p/Java/A.class = platform 1 p/Java/A.class, read 1
+find A|app| = none, read 0
+find A|app|A.class x/B.class x/A.classes w/A.class = none, read 0
+find A|boot|p/A.class x/A.class = none, read 0
+find A|platform|x/A.class y/A.class = none, read 0
+find java/lang/Mine|app|x/java/lang/Mine.class = none, read 0
+find java/lang/Mine|app|p/java/lang/Mine.class y/java/lang/Mine.class = none, read 0
+find java/lang/Mine|platform|p/java/lang/Mine.class = none, read 0
+find a//b|app|x/a//b.class = none, read 0
+find /A|app|x//A.class = none, read 0
+find a.b|app|x/a.b.class = none, read 0
+find a;b|app|x/a;b.class = none, read 0
+find [A|app|x/[A.class = none, read 0
+find |app|x/.class = none, read 0
+find \\ff|app|x/.class = none, read 0
+find \\c0.80|app|x/.class = none, read 0
+find \\ed.a0.80|app|x/.class = none, read 0
 third-fails A|app|x/A.class y/A.class = failed, read 0
-reads A|app|y/A.class z/A.class = app 3 y/A.class, read 1
+find A|app|y/A.class z/A.class = app 3 y/A.class, read 1
 paths x y z|| = too many
 paths |x y z| = too many
 paths ||x y z = taken
