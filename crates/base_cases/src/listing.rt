@@ -66,15 +66,19 @@ fn forms(alloc: Global) -> Result<String, AllocError> {
     Ok(forms)
 }
 
-// How many rows the table has, and whether the bytes that have a form are those of the rows, with their forms.
-pub fn say_table(alloc: Global, said: &mut String) -> Result<(), AllocError> {
-    let forms = forms(alloc)?;
-    say_number(alloc, TABLE.lines().count() as u64, said)?;
-    said.push_str(if forms.as_str() == FORMS {
+fn forms_word(forms: &str) -> &'static str {
+    if forms == FORMS {
         " rows of all forms"
     } else {
         " rows of other forms"
-    })
+    }
+}
+
+// How many rows the table has, and whether the bytes that have a form are those of the rows, with their forms.
+pub fn say_table(alloc: Global, said: &mut String) -> Result<(), AllocError> {
+    say_number(alloc, TABLE.lines().count() as u64, said)?;
+    let forms = forms(alloc)?;
+    said.push_str(forms_word(forms.as_str()))
 }
 
 type Answer<'a> = Result<(Instr<'a>, u32), OpFault>;

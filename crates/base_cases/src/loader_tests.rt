@@ -82,12 +82,12 @@ fn say_found(
     }
 }
 
-// Each path holds its own bytes.
-fn put_files(files: &mut MemoryFiles, paths: &str) -> Result<(), FilesFault> {
+// Each path holds its own bytes, and the call of this number fails.
+fn put_files(files: &mut MemoryFiles, paths: &str, fails: u64) -> Result<(), FilesFault> {
     for path in paths.split_whitespace() {
         files.with(path, path.as_bytes())?;
     }
-    Ok(())
+    files.fail(fails, 0)
 }
 
 // Looks for a name from a loader, over one boot, one platform and three application folders.
@@ -139,19 +139,11 @@ fn say_search(
     say_reads(alloc, files, said)
 }
 
-// The third call fails behind the verb `third-fails`.
-fn prepare(files: &mut MemoryFiles, verb: &str, paths: &str) -> Result<(), FilesFault> {
-    put_files(files, paths)?;
-    if verb == "third-fails" {
-        return files.fail(3, 0);
-    }
-    Ok(())
-}
-
-fn say_store(alloc: Global, verb: &str, words: &str, said: &mut String) -> Result<(), AllocError> {
+// A search in a new store, whose call of this number fails.
+fn say_store(alloc: Global, fails: u64, words: &str, said: &mut String) -> Result<(), AllocError> {
     let mut files = MemoryFiles::new(alloc);
     let (_, paths) = words.rsplit_once('|').unwrap_or((words, ""));
-    match prepare(&mut files, verb, paths) {
+    match put_files(&mut files, paths, fails) {
         Ok(()) => say_search(alloc, &mut files, words, said),
         Err(fault) => said.push_str(fault_word(fault)),
     }
@@ -171,7 +163,8 @@ fn package_word(words: &str) -> &'static str {
 pub fn say(alloc: Global, call: &str, said: &mut String) -> Result<(), AllocError> {
     let (verb, words) = first_word(call);
     match verb {
-        "find" | "third-fails" => say_store(alloc, verb, words, said),
+        "find" => say_store(alloc, 0, words, said),
+        "third-fails" => say_store(alloc, 3, words, said),
         "paths" => say_paths(alloc, words, said),
         "package" => said.push_str(package_word(words)),
         _ => said.push_str("no call"),
