@@ -4,6 +4,10 @@ use Rattle.jsa_base.specs.Reading.{Read}
 use Rattle.class_tree.specs.declared.fault.FormatFault.{FormatFault}
 use Rattle.class_tree.specs.declared.fault.FormatFault.TheVariants.{NotClass, Version}
 use Rattle.class_tree.specs.declared.tree.ClassTree.{ClassTree}
+use Rattle.class_tree.specs.declared.tree.FieldTree.{FieldTree}
+use Rattle.class_tree.specs.declared.tree.MethodTree.{MethodTree}
+use Rattle.class_tree.specs.ClassFiles.{ClassParts}
+use Rattle.class_tree.specs.Trees.{have_names, each, field_of, method_of, tree_of}
 use Rattle.class_tree.specs.Outcomes.{Fails}
 use Rattle.class_tree.specs.Spells.{is_read_version, tree_behind}
 
@@ -16,6 +20,11 @@ Shows view (Err fault) left read = Fails fault read
 abbrev pub Builds : {X Y : Type 0} → (X → Y) → Result X FormatFault → Option Y → Type 0
 Builds view (Ok x) value = value ≡ Some (view x)
 Builds view (Err fault) value = Fails fault value
+
+-- The fields and the methods of a class whose attributes have names, unless memory ran out. Where they fail, no tree is made.
+abbrev pub BuildsMembers : Result (List FieldTree × List MethodTree) FormatFault → ℕ → ClassParts → Type 0
+BuildsMembers (Ok x) major p = (have_names p.pool p.attributes ≡ true) × (each (field_of p.pool) p.fields ≡ Some x.0) × (each (method_of p.pool) p.methods ≡ Some x.1)
+BuildsMembers (Err fault) major p = Fails fault (tree_of major p)
 
 -- what is found of a name after one more attribute
 abbrev pub kept : Option (List ℕ) → Bool → List ℕ → Option (Option (List ℕ))

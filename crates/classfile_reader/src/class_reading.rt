@@ -1,6 +1,6 @@
 //! Reads the parts of a class file from left to right (JVMS 4.1, 4.5 to 4.7).
 ghost use Rattle.std.specs.Prelude.{◌≡◌, Some, None, MatchOption};
-ghost use Rattle.jsa_base.specs.Reading.{u2_at, u4_at, bytes_at, pair_at, times, counted_at, long_text_at, all_read};
+ghost use Rattle.jsa_base.specs.Reading.{u2_at, pair_at, times, counted_at, long_text_at, all_read};
 ghost use Rattle.class_tree.specs.Outcomes.{Gives};
 ghost use Rattle.class_tree.specs.ClassReading.{attribute_at, member_at, handler_at, code_at, parts_at, version_at};
 ghost use Rattle.classfile_reader.specs.PartAnswers.{Shows, Builds};
@@ -11,41 +11,32 @@ use jsa_base::Cursor;
 use sqlite_items::Items;
 use std::alloc::Global;
 
-pub(crate) fn u2(cursor: &mut Cursor<'_>) -> Result<u16, FormatFault>
+fn u2(cursor: &mut Cursor<'_>) -> Result<u16, FormatFault>
     ensures { Gives result cursor.new (u2_at cursor.old) }
 {
     cursor.u2().ok_or(FormatFault::NotClass)
 }
 
-fn u4(cursor: &mut Cursor<'_>) -> Result<u32, FormatFault>
-    ensures { Gives result cursor.new (u4_at cursor.old) }
-{
-    cursor.u4().ok_or(FormatFault::NotClass)
-}
-
-fn bytes<'a>(cursor: &mut Cursor<'a>, n: usize) -> Result<&'a [u8], FormatFault>
-    ensures { Shows (λ b. b.now) result cursor.new (bytes_at n cursor.old) }
-{
-    match cursor.bytes(n) {
-        Some(bytes) => Ok(bytes),
-        None => Err(FormatFault::NotClass),
-    }
-}
-
 #[tactic(auto, unfolding(jsa_base::specs::Reading::long_text_at))]
-fn long_text<'a>(cursor: &mut Cursor<'a>) -> Result<&'a [u8], FormatFault>
-    ensures { Shows (λ b. b.now) result cursor.new (long_text_at cursor.old) }
+fn long_text<'a>(cursor: &mut Cursor<'a>) -> Option<&'a [u8]>
+    ensures { MatchOption result (long_text_at cursor.old ≡ None) (λ b. long_text_at cursor.old ≡ Some (b.now, cursor.new)) }
 {
-    let size = u4(cursor)?;
-    bytes(cursor, size as usize)
+    let Some(size) = cursor.u4() else {
+        return None;
+    };
+    cursor.bytes(size as usize)
 }
 
 #[tactic(auto, unfolding(class_tree::specs::ClassReading::attribute_at))]
 fn attribute<'a>(cursor: &mut Cursor<'a>) -> Result<Attribute<'a>, FormatFault>
     ensures { Gives result cursor.new (attribute_at cursor.old) }
 {
-    let name = u2(cursor)?;
-    let content = long_text(cursor)?;
+    let Some(name) = cursor.u2() else {
+        return Err(FormatFault::NotClass);
+    };
+    let Some(content) = long_text(cursor) else {
+        return Err(FormatFault::NotClass);
+    };
     Ok(Attribute { name, content })
 }
 
@@ -70,7 +61,9 @@ fn attributes<'a>(
 ) -> Result<Items<Attribute<'a>>, FormatFault>
     ensures { Gives result cursor.new (counted_at attribute_at cursor.old) }
 {
-    let count = u2(cursor)?;
+    let Some(count) = cursor.u2() else {
+        return Err(FormatFault::NotClass);
+    };
     some_attributes(alloc, count, cursor)
 }
 
@@ -78,9 +71,15 @@ fn attributes<'a>(
 fn member<'a>(alloc: Global, cursor: &mut Cursor<'a>) -> Result<Member<'a>, FormatFault>
     ensures { Gives result cursor.new (member_at cursor.old) }
 {
-    let flags = u2(cursor)?;
-    let name = u2(cursor)?;
-    let desc = u2(cursor)?;
+    let Some(flags) = cursor.u2() else {
+        return Err(FormatFault::NotClass);
+    };
+    let Some(name) = cursor.u2() else {
+        return Err(FormatFault::NotClass);
+    };
+    let Some(desc) = cursor.u2() else {
+        return Err(FormatFault::NotClass);
+    };
     let attributes = attributes(alloc, cursor)?;
     Ok(Member {
         flags,
@@ -108,7 +107,9 @@ fn some_members<'a>(
 fn members<'a>(alloc: Global, cursor: &mut Cursor<'a>) -> Result<Items<Member<'a>>, FormatFault>
     ensures { Gives result cursor.new (counted_at member_at cursor.old) }
 {
-    let count = u2(cursor)?;
+    let Some(count) = cursor.u2() else {
+        return Err(FormatFault::NotClass);
+    };
     some_members(alloc, count, cursor)
 }
 
@@ -116,10 +117,18 @@ fn members<'a>(alloc: Global, cursor: &mut Cursor<'a>) -> Result<Items<Member<'a
 fn handler(cursor: &mut Cursor<'_>) -> Result<Handler, FormatFault>
     ensures { Gives result cursor.new (handler_at cursor.old) }
 {
-    let start = u2(cursor)?;
-    let end = u2(cursor)?;
-    let handler = u2(cursor)?;
-    let catch = u2(cursor)?;
+    let Some(start) = cursor.u2() else {
+        return Err(FormatFault::NotClass);
+    };
+    let Some(end) = cursor.u2() else {
+        return Err(FormatFault::NotClass);
+    };
+    let Some(handler) = cursor.u2() else {
+        return Err(FormatFault::NotClass);
+    };
+    let Some(catch) = cursor.u2() else {
+        return Err(FormatFault::NotClass);
+    };
     Ok(Handler {
         start,
         end,
@@ -146,7 +155,9 @@ fn some_handlers(
 fn handlers(alloc: Global, cursor: &mut Cursor<'_>) -> Result<Items<Handler>, FormatFault>
     ensures { Gives result cursor.new (counted_at handler_at cursor.old) }
 {
-    let count = u2(cursor)?;
+    let Some(count) = cursor.u2() else {
+        return Err(FormatFault::NotClass);
+    };
     some_handlers(alloc, count, cursor)
 }
 
@@ -169,7 +180,9 @@ fn some_indices(
 fn indices(alloc: Global, cursor: &mut Cursor<'_>) -> Result<Items<u16>, FormatFault>
     ensures { Gives result cursor.new (counted_at u2_at cursor.old) }
 {
-    let count = u2(cursor)?;
+    let Some(count) = cursor.u2() else {
+        return Err(FormatFault::NotClass);
+    };
     some_indices(alloc, count, cursor)
 }
 
@@ -177,9 +190,15 @@ fn indices(alloc: Global, cursor: &mut Cursor<'_>) -> Result<Items<u16>, FormatF
 fn code<'a>(alloc: Global, cursor: &mut Cursor<'a>) -> Result<CodeParts<'a>, FormatFault>
     ensures { Gives result cursor.new (code_at cursor.old) }
 {
-    let stack = u2(cursor)?;
-    let locals = u2(cursor)?;
-    let bytes = long_text(cursor)?;
+    let Some(stack) = cursor.u2() else {
+        return Err(FormatFault::NotClass);
+    };
+    let Some(locals) = cursor.u2() else {
+        return Err(FormatFault::NotClass);
+    };
+    let Some(bytes) = long_text(cursor) else {
+        return Err(FormatFault::NotClass);
+    };
     let handlers = handlers(alloc, cursor)?;
     let attributes = attributes(alloc, cursor)?;
     Ok(CodeParts {
@@ -203,28 +222,55 @@ pub(crate) fn whole_code<'a>(alloc: Global, content: &'a [u8]) -> Result<CodePar
     Ok(parts)
 }
 
+// The interfaces, the fields, the methods and the attributes.
+fn lists<'a>(
+    alloc: Global,
+    cursor: &mut Cursor<'a>,
+) -> Result<
+    (
+        Items<u16>,
+        Items<Member<'a>>,
+        Items<Member<'a>>,
+        Items<Attribute<'a>>,
+    ),
+    FormatFault,
+>
+    ensures { Shows (λ l. (l.0, (l.1, (l.2, l.3)))) result cursor.new (pair_at (counted_at u2_at) (pair_at (counted_at member_at) (pair_at (counted_at member_at) (counted_at attribute_at))) cursor.old) }
+{
+    let interfaces = indices(alloc, cursor)?;
+    let fields = members(alloc, cursor)?;
+    let methods = members(alloc, cursor)?;
+    let attributes = attributes(alloc, cursor)?;
+    Ok((interfaces, fields, methods, attributes))
+}
+
 #[tactic(auto, unfolding(class_tree::specs::ClassReading::parts_at))]
 fn class_parts<'a>(alloc: Global, cursor: &mut Cursor<'a>) -> Result<ClassParts<'a>, FormatFault>
     ensures { Gives result cursor.new (parts_at cursor.old) }
 {
     let pool = read_pool(alloc, cursor)?;
-    let flags = u2(cursor)?;
-    let this = u2(cursor)?;
-    let sup = u2(cursor)?;
-    let interfaces = indices(alloc, cursor)?;
-    let fields = members(alloc, cursor)?;
-    let methods = members(alloc, cursor)?;
-    let attributes = attributes(alloc, cursor)?;
-    Ok(ClassParts {
-        pool,
-        flags,
-        this,
-        sup,
-        interfaces,
-        fields,
-        methods,
-        attributes,
-    })
+    let Some(flags) = cursor.u2() else {
+        return Err(FormatFault::NotClass);
+    };
+    let Some(this) = cursor.u2() else {
+        return Err(FormatFault::NotClass);
+    };
+    let Some(sup) = cursor.u2() else {
+        return Err(FormatFault::NotClass);
+    };
+    match lists(alloc, cursor) {
+        Ok((interfaces, fields, methods, attributes)) => Ok(ClassParts {
+            pool,
+            flags,
+            this,
+            sup,
+            interfaces,
+            fields,
+            methods,
+            attributes,
+        }),
+        Err(fault) => Err(fault),
+    }
 }
 
 /// The parts behind the version, with nothing behind them.

@@ -3,10 +3,10 @@ ghost use Rattle.std.specs.Prelude.{◌≡◌, Some};
 ghost use Rattle.std.specs.Option.{option_map};
 ghost use Rattle.jsa_base.specs.Reading.{u2_at, all_read};
 ghost use Rattle.class_tree.specs.Trees as trees;
-ghost use Rattle.classfile_reader.specs.PartAnswers.{Builds, kept};
+ghost use Rattle.classfile_reader.specs.PartAnswers.{Builds, BuildsMembers, kept};
 
 use crate::class_parts::{Attribute, ClassParts, CodeParts, Member};
-use crate::class_reading::{u2, whole_code};
+use crate::class_reading::whole_code;
 use class_tree::{ClassTree, CodeTree, FieldTree, FormatFault, MethodTree, Pool, has_flag};
 use jsa_base::Cursor;
 use sqlite_items::Items;
@@ -72,7 +72,9 @@ fn whole_index(content: &[u8]) -> Result<u16, FormatFault>
     ensures { Builds (λ n. n) result (all_read (u2_at content.now)) }
 {
     let mut cursor = Cursor::new(content);
-    let index = u2(&mut cursor)?;
+    let Some(index) = cursor.u2() else {
+        return Err(FormatFault::NotClass);
+    };
     if cursor.left() != 0 {
         return Err(FormatFault::NotClass);
     }
@@ -218,6 +220,23 @@ fn methods(
     Ok(methods)
 }
 
+// The fields and the methods, and a test of the class's attributes.
+#[tactic(auto, unfolding(class_tree::specs::Trees::tree_of))]
+fn members(
+    alloc: Global,
+    major: u16,
+    parts: &ClassParts<'_>,
+) -> Result<(Items<FieldTree>, Items<MethodTree>), FormatFault>
+    ensures { BuildsMembers result major parts.now }
+{
+    if !have_names(&parts.pool, parts.attributes.as_slice()) {
+        return Err(FormatFault::NotClass);
+    }
+    let fields = fields(alloc, &parts.pool, parts.fields.as_slice())?;
+    let methods = methods(alloc, &parts.pool, parts.methods.as_slice())?;
+    Ok((fields, methods))
+}
+
 /// The tree of the parts behind a version of this major number.
 ///
 /// # Errors
@@ -232,11 +251,7 @@ pub(crate) fn tree(
 ) -> Result<ClassTree, FormatFault>
     ensures { Builds (λ t. t) result (trees.tree_of major parts.entry) }
 {
-    if !have_names(&parts.pool, parts.attributes.as_slice()) {
-        return Err(FormatFault::NotClass);
-    }
-    let fields = fields(alloc, &parts.pool, parts.fields.as_slice())?;
-    let methods = methods(alloc, &parts.pool, parts.methods.as_slice())?;
+    let (fields, methods) = members(alloc, major, &parts)?;
     let ClassParts {
         pool,
         flags,
