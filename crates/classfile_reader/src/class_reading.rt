@@ -222,12 +222,25 @@ pub(crate) fn whole_code<'a>(alloc: Global, content: &'a [u8]) -> Result<CodePar
     Ok(parts)
 }
 
-// The interfaces, the fields, the methods and the attributes.
+// The methods and the attributes.
+fn last_lists<'a>(
+    alloc: Global,
+    cursor: &mut Cursor<'a>,
+) -> Result<(Items<Member<'a>>, Items<Attribute<'a>>), FormatFault>
+    ensures { Gives result cursor.new (pair_at (counted_at member_at) (counted_at attribute_at) cursor.old) }
+{
+    let methods = members(alloc, cursor)?;
+    let attributes = attributes(alloc, cursor)?;
+    Ok((methods, attributes))
+}
+
+// The superclass, the interfaces and the fields, and what stands behind them.
 fn lists<'a>(
     alloc: Global,
     cursor: &mut Cursor<'a>,
 ) -> Result<
     (
+        u16,
         Items<u16>,
         Items<Member<'a>>,
         Items<Member<'a>>,
@@ -235,13 +248,15 @@ fn lists<'a>(
     ),
     FormatFault,
 >
-    ensures { Shows (λ l. (l.0, (l.1, (l.2, l.3)))) result cursor.new (pair_at (counted_at u2_at) (pair_at (counted_at member_at) (pair_at (counted_at member_at) (counted_at attribute_at))) cursor.old) }
+    ensures { Shows (λ l. (l.0, (l.1, (l.2, (l.3, l.4))))) result cursor.new (pair_at u2_at (pair_at (counted_at u2_at) (pair_at (counted_at member_at) (pair_at (counted_at member_at) (counted_at attribute_at)))) cursor.old) }
 {
+    let Some(sup) = cursor.u2() else {
+        return Err(FormatFault::NotClass);
+    };
     let interfaces = indices(alloc, cursor)?;
     let fields = members(alloc, cursor)?;
-    let methods = members(alloc, cursor)?;
-    let attributes = attributes(alloc, cursor)?;
-    Ok((interfaces, fields, methods, attributes))
+    let (methods, attributes) = last_lists(alloc, cursor)?;
+    Ok((sup, interfaces, fields, methods, attributes))
 }
 
 #[tactic(auto, unfolding(class_tree::specs::ClassReading::parts_at))]
@@ -255,11 +270,8 @@ fn class_parts<'a>(alloc: Global, cursor: &mut Cursor<'a>) -> Result<ClassParts<
     let Some(this) = cursor.u2() else {
         return Err(FormatFault::NotClass);
     };
-    let Some(sup) = cursor.u2() else {
-        return Err(FormatFault::NotClass);
-    };
     match lists(alloc, cursor) {
-        Ok((interfaces, fields, methods, attributes)) => Ok(ClassParts {
+        Ok((sup, interfaces, fields, methods, attributes)) => Ok(ClassParts {
             pool,
             flags,
             this,

@@ -114,6 +114,27 @@ abbrev pub call_as : ℕ → Bool → ℕ × (ℕ × ℕ) → Instruction
 call_as op true = λ p. Dynamic op p.0 p.1.0 p.1.1
 call_as op false = λ p. Interface op p.0 p.1.0 p.1.1
 
+-- those of more than one length
+abbrev pub is_longer_form : Form → Bool
+is_longer_form forms.Plain = false
+is_longer_form forms.Byte = false
+is_longer_form forms.Short = false
+is_longer_form forms.NearConstant = false
+is_longer_form forms.Constant = false
+is_longer_form forms.Local = false
+is_longer_form forms.Iinc = false
+is_longer_form forms.Branch = false
+is_longer_form forms.FarBranch = false
+is_longer_form forms.Member = false
+is_longer_form forms.Interface = false
+is_longer_form forms.Dynamic = false
+is_longer_form forms.ClassOf = false
+is_longer_form forms.NewArray = false
+is_longer_form forms.MultiArray = false
+is_longer_form forms.TableSwitch = true
+is_longer_form forms.LookupSwitch = true
+is_longer_form forms.Wide = true
+
 -- the operands of each form
 unfoldable pub operands_at : ℕ → ℕ → Form → List ℕ → Result (Instruction × List ℕ) OpFault
 operands_at pc op forms.Plain = λ bytes. Ok (Plain op, bytes)

@@ -1,5 +1,5 @@
 //! Reads the instruction at a place of a code.
-ghost use Rattle.std.specs.Prelude.{◌≡◌, ◌<◌, ◌↔◌, length, drop, Result, Err, Some, None, MatchOption, ℕ, IfOk, ◌≤◌};
+ghost use Rattle.std.specs.Prelude.{◌≡◌, ◌<◌, ◌↔◌, length, drop, true, Result, Err, Some, None, MatchOption, ℕ, IfOk, ◌≤◌};
 ghost use Rattle.jsa_base.specs.Reading.{u1_at, u2_at, bytes_at, pair_at};
 ghost use Rattle.jsa_ops.specs.Instruction as shape;
 ghost use Rattle.jsa_ops.specs.Instruction.{Instruction, shown};
@@ -8,7 +8,7 @@ ghost use Rattle.jsa_ops.specs.declared.fault.OpFault.{OpFault as Fault};
 ghost use Rattle.jsa_ops.specs.Spelling.{padding as padding_at};
 ghost use Rattle.jsa_ops.specs.Places.{Answers, IsCut};
 ghost use Rattle.jsa_ops.specs.declared.fault.OpFault.TheVariants.{Cut};
-ghost use Rattle.jsa_ops.specs.Reading.{Gives, of_part, shown_at, decoded, named_as, two_as, call_as, s1_at, s2_at, s4_at, wide_at, widened, distances_at, range_at, pairs_at, count_at, table_switch_at, lookup_switch_at, iinc_at, call_at, dimensions_at, operands_at, behind, instruction_at};
+ghost use Rattle.jsa_ops.specs.Reading.{Gives, of_part, shown_at, decoded, is_longer_form, named_as, two_as, call_as, s1_at, s2_at, s4_at, wide_at, widened, distances_at, range_at, pairs_at, count_at, table_switch_at, lookup_switch_at, iinc_at, call_at, dimensions_at, operands_at, behind, instruction_at};
 
 use crate::fault::OpFault;
 use crate::form::{Form, form_of};
@@ -323,6 +323,19 @@ fn of_call<'a>(cursor: &mut Cursor<'a>, op: u8, is_dynamic: bool) -> Result<Inst
     }
 }
 
+// The operands of a switch or of wide, of more than one length.
+#[tactic(auto, unfolding(crate::specs::Reading::operands_at))]
+fn longer<'a>(cursor: &mut Cursor<'a>, pc: u32, op: u8, form: Form) -> Result<Instr<'a>, OpFault>
+    ensures { is_longer_form form ≡ true → Gives result cursor.new (operands_at pc op form cursor.old) }
+{
+    match form {
+        Form::TableSwitch => table_switch(cursor, pc, op),
+        Form::LookupSwitch => lookup_switch(cursor, pc, op),
+        Form::Wide => wide(cursor, op),
+        _ => Err(OpFault::Cut),
+    }
+}
+
 #[tactic(auto, unfolding(crate::specs::Reading::operands_at))]
 fn operands<'a>(cursor: &mut Cursor<'a>, pc: u32, op: u8, form: Form) -> Result<Instr<'a>, OpFault>
     ensures { Gives result cursor.new (operands_at pc op form cursor.old) }
@@ -343,9 +356,7 @@ fn operands<'a>(cursor: &mut Cursor<'a>, pc: u32, op: u8, form: Form) -> Result<
         Form::ClassOf => far(cursor, op, Named::ClassOf),
         Form::NewArray => new_array(cursor, op),
         Form::MultiArray => multi_array(cursor, op),
-        Form::TableSwitch => table_switch(cursor, pc, op),
-        Form::LookupSwitch => lookup_switch(cursor, pc, op),
-        Form::Wide => wide(cursor, op),
+        _ => longer(cursor, pc, op, form),
     }
 }
 
