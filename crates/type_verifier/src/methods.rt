@@ -222,6 +222,23 @@ fn typed_in(
     }
 }
 
+// What is found of a method that begins with a frame, over the places of its instructions.
+fn typed_over(
+    alloc: Global,
+    asks: &mut Items<Ask>,
+    e: &Env<'_>,
+    places: &Places<'_>,
+    first: Frame,
+) -> Result<Option<u32>, AllocError>
+    requires { places.now ≡ e.now.code.bytes }
+    ensures { Finds (typed_from e.now (Some first)) asks.old asks.new result }
+{
+    match placed_frames(alloc, e, places, &first)? {
+        Some(declared) => typed_in(alloc, asks, e, &declared, places, first),
+        None => Ok(Some(0)),
+    }
+}
+
 // What is found of a method that begins with a frame.
 fn typed_from(
     alloc: Global,
@@ -232,10 +249,7 @@ fn typed_from(
     ensures { Finds (typed_from e.now (Some first)) asks.old asks.new result }
 {
     let places = Places::new(alloc, e.code.bytes.as_slice())?;
-    match placed_frames(alloc, e, &places, &first)? {
-        Some(declared) => typed_in(alloc, asks, e, &declared, &places, first),
-        None => Ok(Some(0)),
-    }
+    typed_over(alloc, asks, e, &places, first)
 }
 
 /// Types a method: the questions up to the first fault are added, and the place of that is given, if there is one.
