@@ -49,17 +49,24 @@ pub fn manifest<F: Files>(
     };
     let platform = match one_folder(alloc, &paths.platform, &mut count, files) {
         Ok(folder) => folder,
-        Err(fault) => return Err(fault),
+        Err(fault) => return Err(leave(boot, fault)),
     };
     let app = match some_folders(alloc, &paths.app, &mut count, files) {
         Ok(folders) => folders,
-        Err(fault) => return Err(fault),
+        Err(fault) => return Err(leave(boot, leave(platform, fault))),
     };
     Ok(Manifest::new(Folders {
         boot,
         platform,
         app,
     }))
+}
+
+// Lets go of a folder, and hands on a fault.
+fn leave(_folder: Option<Folder>, fault: FilesFault) -> FilesFault
+    ensures { result ≡ fault }
+{
+    fault
 }
 
 // The folder of a loader that has one at most.

@@ -150,6 +150,15 @@ abbrev pub is_comment : List ℕ → Bool
 is_comment [] = false
 is_comment (b ∷ rest) = b == 35
 
+-- what a line says of a code, or among its lines
+abbrev pub member_statement : List ℕ → List (List ℕ) → Option Statement
+member_statement word rest =
+    if bytes_eq word (codes "code") then code_line rest
+    else if bytes_eq word (codes "end") then end_line rest
+    else if bytes_eq word (codes "catch") then catch_line rest
+    else if bytes_eq word (codes "frame") then frame_line rest
+    else label_or_operation (label_of word) word rest
+
 -- what the tokens of a line say
 unfoldable pub statement_of : List (List ℕ) → Option Statement
 statement_of [] = Some statement.Blank
@@ -159,11 +168,7 @@ statement_of (word ∷ rest) =
     else if bytes_eq word (codes "version") then version_line rest
     else if bytes_eq word (codes "field") then field_line rest
     else if bytes_eq word (codes "method") then method_line rest
-    else if bytes_eq word (codes "code") then code_line rest
-    else if bytes_eq word (codes "end") then end_line rest
-    else if bytes_eq word (codes "catch") then catch_line rest
-    else if bytes_eq word (codes "frame") then frame_line rest
-    else label_or_operation (label_of word) word rest
+    else member_statement word rest
 
 -- What a line says, if it is in the grammar.
 unfoldable pub line_statement : List ℕ → Option Statement

@@ -4,7 +4,7 @@ ghost use Rattle.std.specs.Option.{option_map};
 ghost use Rattle.class_tree.specs.Trees.{each};
 ghost use Rattle.asm_text.specs.Outcome.{Yields};
 ghost use Rattle.asm_text.specs.Numbers as numbers;
-ghost use Rattle.asm_text.specs.Grammar.{is_dash, superclass, class_line, version_line, optional_value, field_line, method_line, code_line, caught, catch_line, letter_type, object_type, type_of, is_bar, frame_line, is_colon, label_of, operation_line, label_or_operation, end_line, is_comment, statement_of};
+ghost use Rattle.asm_text.specs.Grammar.{is_dash, superclass, class_line, version_line, optional_value, field_line, method_line, code_line, caught, catch_line, letter_type, object_type, type_of, is_bar, frame_line, is_colon, label_of, operation_line, label_or_operation, end_line, is_comment, member_statement, statement_of};
 
 use crate::fault::LineFault;
 use crate::numbers::flags;
@@ -48,6 +48,27 @@ fn superclass(alloc: Global, token: &Items<u8>) -> Result<Option<Items<u8>>, All
     Ok(Some(name))
 }
 
+// The words of a class line, once they are tested.
+fn class_words(
+    alloc: Global,
+    flags: u16,
+    name: &Items<u8>,
+    sup: &Items<u8>,
+    interfaces: &[Items<u8>],
+) -> Result<ClassLine, AllocError>
+    ensures { IfOk result (λ line. line ≡ record { flags = flags; name = name.now; sup = superclass sup.now; interfaces = interfaces.now }) }
+{
+    let name = copy(alloc, name)?;
+    let sup = superclass(alloc, sup)?;
+    let interfaces = copies(alloc, interfaces)?;
+    Ok(ClassLine {
+        flags,
+        name,
+        sup,
+        interfaces,
+    })
+}
+
 // FLAGS NAME SUPER INTERFACE ..
 #[tactic(auto, unfolding(crate::specs::Grammar::class_line))]
 fn class_line(alloc: Global, rest: &[Items<u8>]) -> Result<Statement, LineFault>
@@ -64,15 +85,7 @@ fn class_line(alloc: Global, rest: &[Items<u8>]) -> Result<Statement, LineFault>
     {
         return Err(LineFault::Outside);
     }
-    let name = copy(alloc, name)?;
-    let sup = superclass(alloc, sup)?;
-    let interfaces = copies(alloc, interfaces)?;
-    Ok(Statement::Class(ClassLine {
-        flags,
-        name,
-        sup,
-        interfaces,
-    }))
+    Ok(Statement::Class(class_words(alloc, flags, name, sup, interfaces)?))
 }
 
 // N
@@ -108,6 +121,26 @@ fn optional_value(
     Ok(Some(value))
 }
 
+// The words of a field line, once they are tested, and its value.
+fn field_words(
+    alloc: Global,
+    flags: u16,
+    name: &Items<u8>,
+    desc: &Items<u8>,
+    value: Option<Constant>,
+) -> Result<FieldLine, AllocError>
+    ensures { IfOk result (λ line. line ≡ record { flags = flags; name = name.now; desc = desc.now; value = value }) }
+{
+    let name = copy(alloc, name)?;
+    let desc = copy(alloc, desc)?;
+    Ok(FieldLine {
+        flags,
+        name,
+        desc,
+        value,
+    })
+}
+
 // FLAGS NAME DESC, and a value
 #[tactic(auto, unfolding(crate::specs::Grammar::field_line))]
 fn field_line(alloc: Global, rest: &[Items<u8>]) -> Result<Statement, LineFault>
@@ -121,14 +154,7 @@ fn field_line(alloc: Global, rest: &[Items<u8>]) -> Result<Statement, LineFault>
         return Err(LineFault::Outside);
     }
     let value = optional_value(alloc, flags, desc.as_slice(), rest)?;
-    let name = copy(alloc, name)?;
-    let desc = copy(alloc, desc)?;
-    Ok(Statement::Field(FieldLine {
-        flags,
-        name,
-        desc,
-        value,
-    }))
+    Ok(Statement::Field(field_words(alloc, flags, name, desc, value)?))
 }
 
 // FLAGS NAME DESC
@@ -173,6 +199,28 @@ fn caught(alloc: Global, token: &Items<u8>) -> Result<Option<Items<u8>>, AllocEr
     Ok(Some(class))
 }
 
+// The words of a catch line, once they are tested.
+fn catch_words(
+    alloc: Global,
+    from: &Items<u8>,
+    to: &Items<u8>,
+    handler: &Items<u8>,
+    class: &Items<u8>,
+) -> Result<CatchLine, AllocError>
+    ensures { IfOk result (λ line. line ≡ record { from = from.now; to = to.now; handler = handler.now; class = caught class.now }) }
+{
+    let from = copy(alloc, from)?;
+    let to = copy(alloc, to)?;
+    let handler = copy(alloc, handler)?;
+    let class = caught(alloc, class)?;
+    Ok(CatchLine {
+        from,
+        to,
+        handler,
+        class,
+    })
+}
+
 // FROM TO HANDLER CLASS
 #[tactic(auto, unfolding(crate::specs::Grammar::catch_line))]
 fn catch_line(alloc: Global, rest: &[Items<u8>]) -> Result<Statement, LineFault>
@@ -188,16 +236,7 @@ fn catch_line(alloc: Global, rest: &[Items<u8>]) -> Result<Statement, LineFault>
     {
         return Err(LineFault::Outside);
     }
-    let from = copy(alloc, from)?;
-    let to = copy(alloc, to)?;
-    let handler = copy(alloc, handler)?;
-    let class = caught(alloc, class)?;
-    Ok(Statement::Catch(CatchLine {
-        from,
-        to,
-        handler,
-        class,
-    }))
+    Ok(Statement::Catch(catch_words(alloc, from, to, handler, class)?))
 }
 
 fn letter_type(b: u8) -> Option<FrameType>
@@ -375,6 +414,23 @@ fn is_comment(word: &[u8]) -> bool
     *b == b'#'
 }
 
+// What a line of a method says: of its code, or among the lines of that.
+fn member_statement(alloc: Global, word: &[u8], rest: &[Items<u8>]) -> Result<Statement, LineFault>
+    ensures { Yields (λ s. s) result (member_statement word.now rest.now) }
+{
+    if word == b"code".as_slice() {
+        code_line(rest)
+    } else if word == b"end".as_slice() {
+        end_line(rest)
+    } else if word == b"catch".as_slice() {
+        catch_line(alloc, rest)
+    } else if word == b"frame".as_slice() {
+        frame_line(alloc, rest)
+    } else {
+        label_or_operation(alloc, word, rest)
+    }
+}
+
 // What the tokens of a line say.
 #[tactic(auto, unfolding(crate::specs::Grammar::statement_of))]
 pub(crate) fn statement_of(alloc: Global, tokens: &[Items<u8>]) -> Result<Statement, LineFault>
@@ -394,15 +450,7 @@ pub(crate) fn statement_of(alloc: Global, tokens: &[Items<u8>]) -> Result<Statem
         field_line(alloc, rest)
     } else if word == b"method".as_slice() {
         method_line(alloc, rest)
-    } else if word == b"code".as_slice() {
-        code_line(rest)
-    } else if word == b"end".as_slice() {
-        end_line(rest)
-    } else if word == b"catch".as_slice() {
-        catch_line(alloc, rest)
-    } else if word == b"frame".as_slice() {
-        frame_line(alloc, rest)
     } else {
-        label_or_operation(alloc, word, rest)
+        member_statement(alloc, word, rest)
     }
 }

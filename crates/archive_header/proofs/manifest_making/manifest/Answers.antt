@@ -12,6 +12,6 @@ returns-in-Err-clause-answer g c =
 pub returns-in-Err-one_folder-clause-answer : goal.returns-in-Err-one_folder-clause-answer
 returns-in-Err-one_folder-clause-answer g c =
     let o = g.F.Files.store c.args.files.now in
-    platform_stops o c.args.paths.now c.one_folder.new.count c.one_folder-2.new.count c.in-Ok.folder c.in-Err-one_folder.fault
+    rw c.leave.ensures (platform_stops o c.args.paths.now c.one_folder.new.count c.one_folder-2.new.count c.in-Ok.folder c.in-Err-one_folder.fault
     (one_moved o o 0 c.one_folder.new.count c.paths.inside.boot c.args.paths.now.boot (Ok c.in-Ok.folder) refl (ap (λ (l : FolderLists). l.boot) c.paths.view_is) c.in-Ok.ensures.answer)
-    (one_moved o (g.F.Files.store c.one_folder.new.files) c.one_folder.new.count c.one_folder-2.new.count c.paths.inside.platform c.args.paths.now.platform (Err c.in-Err-one_folder.fault) c.in-Ok.ensures.store (ap (λ (l : FolderLists). l.platform) c.paths.view_is) c.in-Err-one_folder.ensures.answer)
+    (one_moved o (g.F.Files.store c.one_folder.new.files) c.one_folder.new.count c.one_folder-2.new.count c.paths.inside.platform c.args.paths.now.platform (Err c.in-Err-one_folder.fault) c.in-Ok.ensures.store (ap (λ (l : FolderLists). l.platform) c.paths.view_is) c.in-Err-one_folder.ensures.answer))
