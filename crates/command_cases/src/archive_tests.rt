@@ -27,12 +27,6 @@ run -Xshare:on -XX:SharedArchiveFile=a.jsa -cp app Main3 = 4||no main in Main3~
 run -Xshare:on -XX:SharedArchiveFile=a.jsa --steps=8 -cp app Main = 8|42~|stopped after 8 steps~
 reads = read list.txt app/Main.class a.jsa app/Main2.class a.jsa a.jsa";
 
-#[test]
-fn classes_are_run_from_an_archive_or_from_their_files(rt: HostRuntime) -> Result<(), Fail> {
-    assert_eq!(rt; wrong_rows(rt.alloc(), FROM_ARCHIVES)?.as_str(), "");
-    Ok(())
-}
-
 // Fronts of an archive, and archives with an altered byte, each carried to a new folder.
 static REFUSED: &str = "\
 new the first 0 bytes of an archive
@@ -236,12 +230,6 @@ text list.txt # the classes^~Main of the example^~Main~~@other
 run @on = 6||not shared a.jsa: digest~
 run @from = 0|42~|";
 
-#[test]
-fn what_is_no_whole_archive_is_refused(rt: HostRuntime) -> Result<(), Fail> {
-    assert_eq!(rt; wrong_rows(rt.alloc(), REFUSED)?.as_str(), "");
-    Ok(())
-}
-
 // An archive is carried whole, and one isn't there. One byte of a class file is another, so that its digest alone is.
 static FOLDERS: &str = "\
 new
@@ -308,12 +296,6 @@ put app/Main.class SUM
 text list.txt # the classes^~Main of the example^~Main~~@other
 run @on = 6||not shared a.jsa: path 2~
 run @from = 0|42~|";
-
-#[test]
-fn a_folder_that_changed_is_told_by_its_number(rt: HostRuntime) -> Result<(), Fail> {
-    assert_eq!(rt; wrong_rows(rt.alloc(), FOLDERS)?.as_str(), "");
-    Ok(())
-}
 
 // ---- dumps
 
@@ -399,12 +381,6 @@ run @dump = 0|archived 1 skipped 0~|
 run @dump = 0|archived 1 skipped 0~|
 same a.jsa b.jsa = yes";
 
-#[test]
-fn the_first_listed_name_without_a_class_is_told(rt: HostRuntime) -> Result<(), Fail> {
-    assert_eq!(rt; wrong_rows(rt.alloc(), DUMPS)?.as_str(), "");
-    Ok(())
-}
-
 // ---- failures
 
 // A dump makes five calls of the store, and a run from an archive three.
@@ -455,12 +431,6 @@ new & put app/Main.class SUM & text list.txt # the classes^~Main of the example^
 new & put app/Main.class SUM & text list.txt # the classes^~Main of the example^~Main~~@other & run @dump & fail 10 0 & run @from = 0|archived 1 skipped 0~|0|42~|
 new & put app/Main.class SUM & text list.txt # the classes^~Main of the example^~Main~~@other & run @dump & fail 10 0 & run @on = 0|archived 1 skipped 0~|0|42~|";
 
-#[test]
-fn each_call_of_a_dump_and_of_a_run_from_an_archive_may_fail(rt: HostRuntime) -> Result<(), Fail> {
-    assert_eq!(rt; wrong_rows(rt.alloc(), FAILING)?.as_str(), "");
-    Ok(())
-}
-
 // Where the archive is refused the class's file is the fourth call of a run. A line that fails changes no answer.
 static FAILURES: &str = "\
 put app/Main.class SUM
@@ -503,7 +473,8 @@ run @dump = 11||rea
 run @dump = 0|archived 1 skipped 0~|";
 
 #[test]
-fn puts_and_lines_that_fail_are_told_or_not(rt: HostRuntime) -> Result<(), Fail> {
-    assert_eq!(rt; wrong_rows(rt.alloc(), FAILURES)?.as_str(), "");
+fn dumps_and_runs_from_archives_answer_as_written(rt: HostRuntime) -> Result<(), Fail> {
+    let texts = [FROM_ARCHIVES, REFUSED, FOLDERS, DUMPS, FAILING, FAILURES];
+    assert_eq!(rt; wrong_rows(rt.alloc(), &texts)?.as_str(), "");
     Ok(())
 }

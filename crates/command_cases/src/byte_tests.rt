@@ -1,5 +1,5 @@
 // A class in which any byte is another one runs well or is refused.
-use crate::rows::{said_by, tell};
+use crate::rows::{say_anew, tell};
 use std::alloc::{AllocError, Global};
 use std::test::Fail;
 
@@ -23,7 +23,8 @@ fn calls_of(alloc: Global, place: usize, value: u8) -> Result<String, AllocError
 }
 
 fn add_unsound(alloc: Global, calls: &str, wrong: &mut String) -> Result<(), AllocError> {
-    let said = said_by(alloc, calls)?;
+    let mut said = String::new(alloc);
+    say_anew(alloc, calls, &mut said)?;
     if is_sound(said.as_str()) {
         return Ok(());
     }

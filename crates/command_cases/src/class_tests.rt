@@ -123,12 +123,6 @@ new a main with a reserved opcode & put app/Main.class COMPILED & edit app/Main.
 new a main that calls the put of another class & put app/Main.class COMPILED & edit app/Main.class 9 1 22; 172 0 1 0 5 79 116 104 101 114 7 0 19 10 0 20 0 9; 248 1 29; 256 3 5 4; 261 5 21 & run @auto = 9||unsupported Main~
 new a main that calls a put that is not declared & put app/Main.class COMPILED & edit app/Main.class 183 1 2; 227 8 & run @auto = 9||unsupported Main~";
 
-#[test]
-fn each_narrowing_refuses(rt: HostRuntime) -> Result<(), Fail> {
-    assert_eq!(rt; wrong_rows(rt.alloc(), REFUSED)?.as_str(), "");
-    Ok(())
-}
-
 // Class files of the first form, and what they put.
 static ACCEPTED: &str = "\
 new the class as it was compiled & put app/Main.class COMPILED & run @auto = 0|42~-1~|
@@ -156,7 +150,8 @@ new sums from the top of the stack & put app/Main.class COMPILED & edit app/Main
 new no put that is declared and none that is called & put app/Main.class COMPILED & edit app/Main.class 183 1 2; 227 8; 248 1 25; 256 10 1 & run @auto = 0||";
 
 #[test]
-fn what_no_narrowing_names_is_accepted(rt: HostRuntime) -> Result<(), Fail> {
-    assert_eq!(rt; wrong_rows(rt.alloc(), ACCEPTED)?.as_str(), "");
+fn edited_classes_run_or_are_refused(rt: HostRuntime) -> Result<(), Fail> {
+    let texts = [REFUSED, ACCEPTED];
+    assert_eq!(rt; wrong_rows(rt.alloc(), &texts)?.as_str(), "");
     Ok(())
 }

@@ -68,12 +68,6 @@ new
 run --home=none -cp app E = 3||no boot class java/lang/Object~
 reads = read";
 
-#[test]
-fn a_home_has_54_classes_and_their_list(rt: HostRuntime) -> Result<(), Fail> {
-    assert_eq!(rt; wrong_rows(rt.alloc(), HOME)?.as_str(), "");
-    Ok(())
-}
-
 // A call of the making of a home fails: how many class files and which bytes of the list it leaves. The classes before the
 // call are those of a home that is made after it.
 static UNMADE: &str = "\
@@ -150,12 +144,6 @@ same h/boot/java/lang/IllegalStateException.class g/boot/java/lang/IllegalStateE
 same h/boot/java/lang/UnsupportedOperationException.class g/boot/java/lang/UnsupportedOperationException.class = yes
 same h/boot/jsa/Out.class g/boot/jsa/Out.class = yes";
 
-#[test]
-fn a_home_that_can_not_be_written_is_told(rt: HostRuntime) -> Result<(), Fail> {
-    assert_eq!(rt; wrong_rows(rt.alloc(), UNMADE)?.as_str(), "");
-    Ok(())
-}
-
 // ---- runs and their lists
 
 static LISTS: &str = "\
@@ -193,12 +181,6 @@ run --make-home jsa-home = 0||
 put ./Main.class SUM
 run Main = 0|42~|
 reads = read jsa-home/boot/java/lang/Object.class jsa-home/boot/java/io/Serializable.class jsa-home/boot/java/lang/Cloneable.class jsa-home/boot/java/lang/Comparable.class jsa-home/boot/java/lang/CharSequence.class jsa-home/boot/java/lang/String.class jsa-home/boot/java/lang/Class.class jsa-home/boot/java/lang/Throwable.class jsa-home/boot/java/lang/Error.class jsa-home/boot/java/lang/Exception.class jsa-home/boot/java/lang/RuntimeException.class jsa-home/boot/java/lang/LinkageError.class jsa-home/boot/java/lang/NoClassDefFoundError.class jsa-home/boot/java/lang/ClassFormatError.class jsa-home/boot/java/lang/UnsupportedClassVersionError.class jsa-home/boot/java/lang/ClassCircularityError.class jsa-home/boot/java/lang/IncompatibleClassChangeError.class jsa-home/boot/java/lang/AbstractMethodError.class jsa-home/boot/java/lang/IllegalAccessError.class jsa-home/boot/java/lang/InstantiationError.class jsa-home/boot/java/lang/NoSuchFieldError.class jsa-home/boot/java/lang/NoSuchMethodError.class jsa-home/boot/java/lang/UnsatisfiedLinkError.class jsa-home/boot/java/lang/VerifyError.class jsa-home/boot/java/lang/ExceptionInInitializerError.class jsa-home/boot/java/lang/VirtualMachineError.class jsa-home/boot/java/lang/OutOfMemoryError.class jsa-home/boot/java/lang/StackOverflowError.class jsa-home/boot/java/lang/ArithmeticException.class jsa-home/boot/java/lang/IndexOutOfBoundsException.class jsa-home/boot/java/lang/ArrayIndexOutOfBoundsException.class jsa-home/boot/java/lang/StringIndexOutOfBoundsException.class jsa-home/boot/java/lang/ArrayStoreException.class jsa-home/boot/java/lang/ClassCastException.class jsa-home/boot/java/lang/NegativeArraySizeException.class jsa-home/boot/java/lang/NullPointerException.class jsa-home/boot/java/lang/IllegalMonitorStateException.class jsa-home/boot/java/lang/CloneNotSupportedException.class ./Main.class";
-
-#[test]
-fn a_run_lists_its_classes_where_it_exits(rt: HostRuntime) -> Result<(), Fail> {
-    assert_eq!(rt; wrong_rows(rt.alloc(), LISTS)?.as_str(), "");
-    Ok(())
-}
 
 // ---- what is found
 
@@ -336,12 +318,6 @@ text t.txt class 0x0021 Main java/lang/Object~method 0x0108 put (I)V~method 0x00
 run --asm t.txt app = 0||
 run Main = 3||no boot class java/lang/Object~";
 
-#[test]
-fn where_a_main_class_is_found(rt: HostRuntime) -> Result<(), Fail> {
-    assert_eq!(rt; wrong_rows(rt.alloc(), FOUND)?.as_str(), "");
-    Ok(())
-}
-
 // ---- classes that don't load or don't run, and homes that are wanting
 
 // A class A is run that does not load, or has no main.
@@ -416,12 +392,6 @@ run --asm t.txt app = 0||
 run --home=h -XX:DumpLoadedClassList=l.txt -cp app A = 9||unsupported A~
 reads = read t.txt 1 2 3 4 5 6 7 8 9 10 11 12 13 14 15 16 17 18 19 20 21 22 23 24 25 26 27 28 29 30 31 32 33 34 35 36 37 38 app/A.class
 size l.txt = none";
-
-#[test]
-fn classes_that_do_not_load(rt: HostRuntime) -> Result<(), Fail> {
-    assert_eq!(rt; wrong_rows(rt.alloc(), UNLOADED)?.as_str(), "");
-    Ok(())
-}
 
 // Homes in which a class is another one.
 static WANTING: &str = "\
@@ -601,12 +571,6 @@ run --home=h -XX:DumpLoadedClassList=l.txt -cp app A = 4||no main in A~
 reads = read t.txt 1 2 3 4 5 6 7 8 9 10 11 12 13 14 15 16 17 18 19 20 21 22 23 24 25 26 27 28 29 30 31 32 33 34 35 36 37 38
 size l.txt = none";
 
-#[test]
-fn homes_whose_classes_are_wanting(rt: HostRuntime) -> Result<(), Fail> {
-    assert_eq!(rt; wrong_rows(rt.alloc(), WANTING)?.as_str(), "");
-    Ok(())
-}
-
 // A path at which no class is, but a byte or none, and what a run tells.
 static NOT_CLASSES: &str = "\
 new
@@ -680,12 +644,6 @@ put app/Main.class SUM
 text app/Main.class 
 run --home=h -XX:DumpLoadedClassList=l.txt -cp app Main = 4||no main in Main~";
 
-#[test]
-fn files_that_are_no_classes(rt: HostRuntime) -> Result<(), Fail> {
-    assert_eq!(rt; wrong_rows(rt.alloc(), NOT_CLASSES)?.as_str(), "");
-    Ok(())
-}
-
 // ---- faults
 
 // A call of the store fails behind five bytes, counted behind the 55 of the home. A run makes 42 calls, so that of the last
@@ -747,7 +705,15 @@ run --home=h -XX:DumpLoadedClassList=l.txt -cp app Main = 12|42~|write fault~
 size l.txt = none";
 
 #[test]
-fn each_call_of_a_run_over_a_home_may_fail(rt: HostRuntime) -> Result<(), Fail> {
-    assert_eq!(rt; wrong_rows(rt.alloc(), FAILING)?.as_str(), "");
+fn homes_and_the_lists_of_their_runs(rt: HostRuntime) -> Result<(), Fail> {
+    let texts = [HOME, UNMADE, LISTS];
+    assert_eq!(rt; wrong_rows(rt.alloc(), &texts)?.as_str(), "");
+    Ok(())
+}
+
+#[test]
+fn where_classes_are_found_and_what_is_told_of_wanting_ones(rt: HostRuntime) -> Result<(), Fail> {
+    let texts = [FOUND, UNLOADED, WANTING, NOT_CLASSES, FAILING];
+    assert_eq!(rt; wrong_rows(rt.alloc(), &texts)?.as_str(), "");
     Ok(())
 }

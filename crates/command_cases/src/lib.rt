@@ -4,7 +4,7 @@
 #[cfg(test)]
 mod archive_tests;
 #[cfg(test)]
-mod asm_tests;
+mod asm_rows;
 #[cfg(test)]
 mod bench;
 #[cfg(test)]

@@ -83,25 +83,34 @@ fn try_row(
     compare(row, said.as_str(), wrong)
 }
 
-fn try_rows(alloc: Global, rows: &str, wrong: &mut String) -> Result<(), AllocError> {
-    let mut bench = new_bench(alloc);
+fn try_rows(
+    alloc: Global,
+    bench: &mut Bench,
+    rows: &str,
+    wrong: &mut String,
+) -> Result<(), AllocError> {
     for row in rows.lines() {
-        try_row(alloc, &mut bench, row, wrong)?;
+        try_row(alloc, bench, row, wrong)?;
     }
     Ok(())
 }
 
-// The rows that are wrong.
-pub(crate) fn wrong_rows(alloc: Global, rows: &str) -> Result<String, AllocError> {
+fn try_text(alloc: Global, rows: &str, wrong: &mut String) -> Result<(), AllocError> {
+    let mut bench = new_bench(alloc);
+    try_rows(alloc, &mut bench, rows, wrong)
+}
+
+// The rows of texts that are wrong.
+pub(crate) fn wrong_rows(alloc: Global, texts: &[&str]) -> Result<String, AllocError> {
     let mut wrong = String::new(alloc);
-    try_rows(alloc, rows, &mut wrong)?;
+    for rows in texts {
+        try_text(alloc, rows, &mut wrong)?;
+    }
     Ok(wrong)
 }
 
-// What calls say over a new store.
-pub(crate) fn said_by(alloc: Global, calls: &str) -> Result<String, AllocError> {
+// Says what calls answer over a new store.
+pub(crate) fn say_anew(alloc: Global, calls: &str, said: &mut String) -> Result<(), AllocError> {
     let mut bench = new_bench(alloc);
-    let mut said = String::new(alloc);
-    say_calls(alloc, &mut bench, calls, &mut said)?;
-    Ok(said)
+    say_calls(alloc, &mut bench, calls, said)
 }

@@ -1,4 +1,5 @@
 // Whole runs over a store and sinks in memory, without a home.
+use crate::asm_rows::ASSEMBLIES;
 use crate::failure_rows::FAILURES;
 use crate::rows::wrong_rows;
 use std::test::Fail;
@@ -18,12 +19,6 @@ run -Xshare:auto -cp  Main = 2||usage~
 reads = read
 put a/b/p/q/Main.class COMPILED
 run -Xshare:auto -cp a/b p.q.Main = 0|42~-1~|";
-
-#[test]
-fn runs_and_what_they_tell(rt: HostRuntime) -> Result<(), Fail> {
-    assert_eq!(rt; wrong_rows(rt.alloc(), RUNS)?.as_str(), "");
-    Ok(())
-}
 
 // The compiled class ends in its ninth turn.
 static LIMITS: &str = "\
@@ -46,12 +41,6 @@ run -Xshare:auto -cp app --steps=0xFFFFFFFFFFFFFFFF Main = 0|42~-1~|
 put app/Main.class SUM
 run -Xshare:auto -cp app --steps=8 Main = 8|42~|stopped after 8 steps~
 run -Xshare:auto -cp app --steps=9 Main = 0|42~|";
-
-#[test]
-fn a_run_stops_at_its_limit_of_turns(rt: HostRuntime) -> Result<(), Fail> {
-    assert_eq!(rt; wrong_rows(rt.alloc(), LIMITS)?.as_str(), "");
-    Ok(())
-}
 
 // Words outside the grammar.
 static FAULTY_WORDS: &str = "\
@@ -125,18 +114,6 @@ run -Xshare:auto -cp app p/Main & reads = 2||usage~read
 run -Xshare:auto -cp app Ma-in & reads = 2||usage~read
 run -Xshare:auto -cp app Ma\u{e9}n & reads = 2||usage~read";
 
-#[test]
-fn faulty_words_refuse_and_read_nothing(rt: HostRuntime) -> Result<(), Fail> {
-    assert_eq!(rt; wrong_rows(rt.alloc(), FAULTY_WORDS)?.as_str(), "");
-    Ok(())
-}
-
-#[test]
-fn each_failure_of_the_outside_is_told_and_loses_nothing(rt: HostRuntime) -> Result<(), Fail> {
-    assert_eq!(rt; wrong_rows(rt.alloc(), FAILURES)?.as_str(), "");
-    Ok(())
-}
-
 // Files that are as large as they may be, and larger ones.
 static LARGE: &str = "\
 large app/Main.class 1
@@ -165,7 +142,15 @@ large app/Other.class 1
 run @on = 13||limit FileSize 67108864~";
 
 #[test]
+fn runs_and_assemblies_answer_as_written(rt: HostRuntime) -> Result<(), Fail> {
+    let texts = [RUNS, LIMITS, FAULTY_WORDS, FAILURES, ASSEMBLIES];
+    assert_eq!(rt; wrong_rows(rt.alloc(), &texts)?.as_str(), "");
+    Ok(())
+}
+
+#[test]
 fn a_file_above_the_limit_is_told(rt: HostRuntime) -> Result<(), Fail> {
-    assert_eq!(rt; wrong_rows(rt.alloc(), LARGE)?.as_str(), "");
+    let texts = [LARGE];
+    assert_eq!(rt; wrong_rows(rt.alloc(), &texts)?.as_str(), "");
     Ok(())
 }

@@ -6,7 +6,7 @@ use class_tree::ClassTree;
 use std::alloc::{AllocError, Global};
 
 /// A case.
-#[derive(Debug, Drop)]
+#[derive(Drop)]
 pub struct Case {
     pub name: String,
     /// Its class, in the language of the assembler.
@@ -20,7 +20,7 @@ pub struct Case {
 }
 
 /// Why a case has no class.
-#[derive(Clone, Copy, Debug, PartialEq, Eq)]
+#[derive(Clone, Copy)]
 pub enum CaseFault {
     /// Its text or its changes are wrong.
     Wrong,

@@ -7,18 +7,14 @@ mod asked;
 #[cfg(test)]
 mod ends;
 #[cfg(test)]
-mod hello_tests;
-#[cfg(test)]
-mod line_tests;
-#[cfg(test)]
-mod list_tests;
-#[cfg(test)]
 mod lists;
 #[cfg(test)]
 mod rows;
 #[cfg(test)]
 mod said;
 #[cfg(test)]
+mod tests;
+#[cfg(test)]
 mod trees;
 #[cfg(test)]
-mod word_tests;
+mod word_rows;

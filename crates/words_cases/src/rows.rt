@@ -57,11 +57,18 @@ fn try_row(alloc: Global, row: &str, wrong: &mut String) -> Result<(), AllocErro
     compare(row, said.as_str(), wrong)
 }
 
-// The rows that are wrong.
-pub(crate) fn wrong_rows(alloc: Global, rows: &str) -> Result<String, AllocError> {
-    let mut wrong = String::new(alloc);
+fn try_rows(alloc: Global, rows: &str, wrong: &mut String) -> Result<(), AllocError> {
     for row in rows.lines() {
-        try_row(alloc, row, &mut wrong)?;
+        try_row(alloc, row, wrong)?;
+    }
+    Ok(())
+}
+
+// The rows of texts that are wrong.
+pub(crate) fn wrong_rows(alloc: Global, texts: &[&str]) -> Result<String, AllocError> {
+    let mut wrong = String::new(alloc);
+    for rows in texts {
+        try_rows(alloc, rows, &mut wrong)?;
     }
     Ok(wrong)
 }

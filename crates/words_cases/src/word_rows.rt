@@ -1,9 +1,7 @@
 // The words of the commands, and what they ask for.
-use crate::rows::wrong_rows;
-use std::test::Fail;
 
 // A folder and a main class, and the path of its file; class paths of 64 folders and more; and no words.
-static FOLDERS: &str = "\
+pub(crate) static FOLDERS: &str = "\
 words |-Xshare:auto|-cp|app|Main = run app/Main.class auto - 1000000000
 words |-Xshare:auto|-cp|a b/c|x.y_1.Z$ = run a b/c/x/y_1/Z$.class auto - 1000000000
 words |-Xshare:auto|-cp|**|A = run **/A.class auto - 1000000000
@@ -29,13 +27,7 @@ words |-cp|d:d:d:d:d:d:d:d:d:d:d:d:d:d:d:d:d:d:d:d:d:d:d:d:d:d:d:d:d:d:d:d:d:d:d
 words |-cp|d:d:d:d:d:d:d:d:d:d:d:d:d:d:d:d:d:d:d:d:d:d:d:d:d:d:d:d:d:d:d:d:d:d:d:d:d:d:d:d:d:d:d:d:d:d:d:d:d:d:d:d:d:d:d:d:d:d:d:d:d:d:d:d:d:d|Main = nothing
 words = nothing";
 
-#[test]
-fn folders_and_main_classes(rt: HostRuntime) -> Result<(), Fail> {
-    assert_eq!(rt; wrong_rows(rt.alloc(), FOLDERS)?.as_str(), "");
-    Ok(())
-}
-
-static WORDS: &str = "\
+pub(crate) static WORDS: &str = "\
 words |-cp|app|Main = home Main jsa-home [app,] - 1000000000
 words |-cp|app|--steps=7|Main = home Main jsa-home [app,] - 7
 words |--steps=0x10|-cp|app|Main = home Main jsa-home [app,] - 16
@@ -189,9 +181,3 @@ words |--make-home|h|--steps=1 = nothing
 words |--steps=1|--make-home|h = nothing
 words |--MAKE-HOME|h = nothing
 words |--make-home=h = nothing";
-
-#[test]
-fn words_and_what_they_ask_for(rt: HostRuntime) -> Result<(), Fail> {
-    assert_eq!(rt; wrong_rows(rt.alloc(), WORDS)?.as_str(), "");
-    Ok(())
-}

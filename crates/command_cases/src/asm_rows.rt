@@ -1,9 +1,7 @@
 // Whole assemblies over a store and sinks in memory.
-use crate::rows::wrong_rows;
-use std::test::Fail;
 
 // The class files of A and of p/B have so many bytes behind each.
-static ROWS: &str = "\
+pub(crate) static ASSEMBLIES: &str = "\
 new
 text t.txt class 0x0021 A java/lang/Object~
 run --asm t.txt out = 0||
@@ -65,9 +63,3 @@ put A.class A
 same out/A.class A.class = yes
 new
 run --asm no.txt out = 5||missing no.txt~";
-
-#[test]
-fn texts_and_what_their_assembly_leaves(rt: HostRuntime) -> Result<(), Fail> {
-    assert_eq!(rt; wrong_rows(rt.alloc(), ROWS)?.as_str(), "");
-    Ok(())
-}
