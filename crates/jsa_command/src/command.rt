@@ -95,6 +95,9 @@ pub fn run_command<F: Files, O: Sink, E: Sink>(
     do_words(alloc, words, files, out, err)
 }
 
+// Lets go of a command.
+fn let_go(_command: Command) {}
+
 // Does what the words ask for, and puts the end's line.
 #[tactic(auto, using(crate::proofs::Tells::memory_told))]
 fn do_words<F: Files, O: Sink, E: Sink>(
@@ -120,7 +123,11 @@ fn do_words<F: Files, O: Sink, E: Sink>(
     ensures err_stays { E.can_fail err.new → E.can_fail err.old }
 {
     match read_words(alloc, words) {
-        Ok(Some(command)) => do_command(alloc, &command, files, out, err),
+        Ok(Some(command)) => {
+            let done = do_command(alloc, &command, files, out, err);
+            let_go(command);
+            done
+        }
         Ok(None) => (tell(alloc, Ended::Usage, b"", 0, err), files),
         Err(_) => (tell(alloc, Ended::Memory, b"", 0, err), files),
     }

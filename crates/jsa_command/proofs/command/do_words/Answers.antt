@@ -7,8 +7,8 @@ use Rattle.jsa_command.proofs.Commands.{no_memory}
 use Rattle.jsa_command.proofs.HomePaths.{few_folders}
 use Rattle.jsa_command.proofs.command.do_words.Goals as goal
 
-pub do_command-requires : goal.do_command-requires
-do_command-requires g c = record {
+pub do_command-done-requires : goal.do_command-done-requires
+do_command-done-requires g c = record {
   few =
       few_folders (map string_bytes c.args.words.now) (command_view c.in-Ok-Some.command)
       (sym (ap (option_map command_view) c.in-Ok-Some.field-0-is) ∙ c.in-Ok-Some.ensures);
