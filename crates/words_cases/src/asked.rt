@@ -57,7 +57,9 @@ fn say_run(alloc: Global, run: &RunWords, said: &mut String) -> Result<(), Alloc
     let archive = run.archive.as_deref().unwrap_or("-");
     said.push_str("run ")?;
     say_path(run, said)?;
-    say_all(&[share_word(run.share), archive, " "], said)?;
+    said.push_str(share_word(run.share))?;
+    said.push_str(archive)?;
+    said.push_str(" ")?;
     say_number(alloc, run.steps, said)
 }
 
@@ -83,9 +85,14 @@ fn say_command(alloc: Global, command: &Command, said: &mut String) -> Result<()
     }
 }
 
-pub(crate) fn say_asked(alloc: Global, line: &str, said: &mut String) -> Result<(), AllocError> {
-    match &command_of(alloc, line)? {
+fn say_option(alloc: Global, asked: &Option<Command>, said: &mut String) -> Result<(), AllocError> {
+    match asked {
         Some(command) => say_command(alloc, command, said),
         None => said.push_str("nothing"),
     }
+}
+
+pub(crate) fn say_asked(alloc: Global, line: &str, said: &mut String) -> Result<(), AllocError> {
+    let asked = command_of(alloc, line)?;
+    say_option(alloc, &asked, said)
 }
