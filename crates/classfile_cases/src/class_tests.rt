@@ -1,5 +1,5 @@
 // What no contract says: that a class is read where memory suffices. And classes on both sides of each rule.
-use crate::pool_tests::tell_wrong;
+use crate::rows::tell_wrong;
 use crate::test_classes::{CHANGED, CLASSES, HELLO, POOL};
 use class_tree::{ClassTree, CodeTree, FormatFault, MethodTree, PoolEntry};
 use classfile_reader::read_class;

@@ -1,5 +1,5 @@
 // What no contract says: that a class of the first form is read where memory suffices.
-use crate::pool_tests::tell_wrong;
+use crate::rows::tell_wrong;
 use class_tree::ClassTree;
 use classfile_reader::{
     FormFault, Program, each_class_is_named, one_name, one_program, read_class, read_name,

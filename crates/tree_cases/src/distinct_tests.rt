@@ -1,5 +1,5 @@
 // Trees on both sides of each rule, and one whose methods all have one long name.
-use crate::pool_tests::tell_wrong;
+use crate::rows::tell_wrong;
 use class_tree::{ClassTree, FieldTree, MethodTree, Pool, PoolEntry, has_distinct_parts};
 use sqlite_items::Items;
 use std::alloc::{AllocError, Global};

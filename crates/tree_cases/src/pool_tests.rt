@@ -1,25 +1,10 @@
 // What no contract says: that a pool is read where memory suffices. And pools on both sides of each rule.
+use crate::rows::tell_wrong;
 use crate::test_pools::POOLS;
 use class_tree::{FormatFault, PoolEntry, one_pool, read_pool};
 use jsa_base::Cursor;
 use std::alloc::{AllocError, Global};
 use std::test::Fail;
-
-/// Tells a row that is wrong, with what was said.
-pub fn tell_wrong(
-    wrong: &mut String,
-    row: &str,
-    said: &str,
-    wanted: &str,
-) -> Result<(), AllocError> {
-    if said != wanted {
-        wrong.push_str(row)?;
-        wrong.push_str(" but ")?;
-        wrong.push_str(said)?;
-        wrong.push_str("\n")?;
-    }
-    Ok(())
-}
 
 // Entries of each kind, and behind the pool two bytes.
 const EACH_KIND: [u8; 97] = [
