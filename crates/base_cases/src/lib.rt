@@ -1,11 +1,7 @@
-//! What no clause of `jsa_names`, `jsa_ops` and `loader_rules` says: that calls succeed where memory suffices, and that their
-//! definitions are the standard's, by rows on both sides of each rule and another program's reading of a code.
+//! What no clause of `jsa_names` and `loader_rules` says: that calls succeed where memory suffices, and that their definitions
+//! are the standard's, by rows on both sides of each rule.
 #![tactic(auto)]
 
-#[cfg(test)]
-mod code_tests;
-#[cfg(test)]
-mod listing;
 #[cfg(test)]
 mod loader_tests;
 #[cfg(test)]
@@ -16,5 +12,3 @@ mod name_tests;
 mod rows;
 #[cfg(test)]
 mod test_bytes;
-#[cfg(test)]
-mod test_code;

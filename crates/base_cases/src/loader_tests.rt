@@ -1,10 +1,11 @@
 // What loaders find in small stores, how many folders there may be, and which classes share a package.
-use crate::rows::{first_word, say_number, say_text, word_of, wrong_rows};
+use crate::rows::wrong_rows;
 use crate::test_bytes::{are_words, bytes_of};
 use jsa_files::{FilesFault, MemoryFiles, Names};
 use loader_rules::{Found, Loader, Paths, find, same_package};
 use std::alloc::{AllocError, Global};
 use std::test::Fail;
+use test_rows::{first_word, say_number, say_text, word_of};
 
 // The rows have few folders.
 fn push_name(names: &mut Names, name: &str) -> Result<(), AllocError> {

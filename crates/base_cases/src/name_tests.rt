@@ -1,6 +1,6 @@
 // Names and descriptors on both sides of each rule.
 use crate::name_table::ROWS;
-use crate::rows::{first_word, say_number, say_text, say_word, word_of, wrong_rows};
+use crate::rows::wrong_rows;
 use crate::test_bytes::{are_words, bytes_of};
 use jsa_names::{
     FieldType, MethodType, field_type, field_types_are_spelled, is_class_name, is_member_name,
@@ -9,6 +9,7 @@ use jsa_names::{
 };
 use std::alloc::{AllocError, Global};
 use std::test::Fail;
+use test_rows::{first_word, say_number, say_text, word_of};
 
 // The letter of a type that is no class and no array.
 fn letter(read: &FieldType<'_>) -> &'static str {
@@ -249,6 +250,13 @@ fn say_parts(alloc: Global, verb: &str, words: &str, said: &mut String) -> Resul
     }
     let bytes = bytes_of(alloc, words)?;
     say_part(alloc, verb, part, bytes.as_slice(), said)
+}
+
+fn say_word(
+    word: Result<&'static str, AllocError>,
+    said: &mut String,
+) -> Result<(), AllocError> {
+    said.push_str(word?)
 }
 
 pub fn say(alloc: Global, call: &str, said: &mut String) -> Result<(), AllocError> {

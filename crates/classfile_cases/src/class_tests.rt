@@ -1,10 +1,10 @@
 // What no contract says: that a class is read where memory suffices. And classes on both sides of each rule.
-use crate::rows::tell_wrong;
 use crate::test_classes::{CHANGED, CLASSES, HELLO, POOL};
 use class_tree::{ClassTree, CodeTree, FormatFault, MethodTree, PoolEntry};
 use classfile_reader::read_class;
 use std::alloc::{AllocError, Global};
 use std::test::Fail;
+use test_rows::tell_wrong;
 
 // What is read of the bytes: `yes`, `no` or the version.
 fn say(alloc: Global, said: &mut String, bytes: &[u8]) -> Result<(), AllocError> {

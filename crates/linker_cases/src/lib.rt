@@ -5,10 +5,6 @@
 #[cfg(test)]
 mod files;
 #[cfg(test)]
-mod record_tests;
-#[cfg(test)]
-mod start_tests;
-#[cfg(test)]
 mod tests;
 #[cfg(test)]
 mod worlds;

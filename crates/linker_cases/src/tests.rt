@@ -2,13 +2,14 @@
 ghost use Rattle.std.specs.Prelude.{◌≡◌, ◌<◌, length};
 
 use crate::files::{classes_of, put_file, put_files};
-use crate::worlds::{say_load, tell_wrong};
+use crate::worlds::say_load;
 use class_linker::Fresh;
 use class_record::{ClassId, Classes, PoolFact};
 use jsa_files::{FilesFault, MAX_FILE, MemoryFiles};
 use loader_rules::Loader;
 use std::alloc::{AllocError, Global};
 use std::test::Fail;
+use test_rows::tell_wrong;
 
 // ---- what is said of a loaded class
 

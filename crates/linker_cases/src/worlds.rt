@@ -7,6 +7,7 @@ use jsa_files::{FilesFault, MemoryFiles};
 use loader_rules::Loader;
 use std::alloc::{AllocError, Global};
 use std::test::Fail;
+use test_rows::tell_wrong;
 
 fn loader(word: &str) -> Loader {
     match word {
@@ -175,22 +176,6 @@ x/A class A O|O app; A app| 0 1| O A| b/O x/A
 |A app| NoClassDefFoundError||
 |a//b app| NoClassDefFoundError||
 |[A app| NoClassDefFoundError||";
-
-/// Tells a row that is wrong, with what was said.
-pub fn tell_wrong(
-    wrong: &mut String,
-    row: &str,
-    said: &str,
-    wanted: &str,
-) -> Result<(), AllocError> {
-    if said != wanted {
-        wrong.push_str(row)?;
-        wrong.push_str(" but ")?;
-        wrong.push_str(said)?;
-        wrong.push_str("\n")?;
-    }
-    Ok(())
-}
 
 fn try_row(alloc: Global, wrong: &mut String, row: &str) -> Result<(), FilesFault> {
     let (_, rest) = row.split_once('|').unwrap_or((row, ""));

@@ -1,9 +1,9 @@
 // Trees on both sides of each rule, and one whose methods all have one long name.
-use crate::rows::tell_wrong;
 use class_tree::{ClassTree, FieldTree, MethodTree, Pool, PoolEntry, has_distinct_parts};
 use sqlite_items::Items;
 use std::alloc::{AllocError, Global};
 use std::test::Fail;
+use test_rows::tell_wrong;
 
 // A line says whether all parts are distinct and what it shows. Behind semicolons it gives the entries from index 1 on,
 // a number for the Class of a name and any other word for a Utf8, then the interfaces, the fields and the methods, each

@@ -6,6 +6,4 @@ mod distinct_tests;
 #[cfg(test)]
 mod pool_tests;
 #[cfg(test)]
-mod rows;
-#[cfg(test)]
 mod test_pools;

@@ -1,10 +1,10 @@
 // What no contract says: that a pool is read where memory suffices. And pools on both sides of each rule.
-use crate::rows::tell_wrong;
 use crate::test_pools::POOLS;
 use class_tree::{FormatFault, PoolEntry, one_pool, read_pool};
 use jsa_base::Cursor;
 use std::alloc::{AllocError, Global};
 use std::test::Fail;
+use test_rows::tell_wrong;
 
 // Entries of each kind, and behind the pool two bytes.
 const EACH_KIND: [u8; 97] = [

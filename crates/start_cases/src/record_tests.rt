@@ -6,6 +6,7 @@ use class_record::{
 use loader_rules::Loader;
 use std::alloc::{AllocError, Global};
 use std::test::Fail;
+use test_rows::{tell, word_of};
 
 fn loader(word: &str) -> Loader {
     match word {
@@ -13,10 +14,6 @@ fn loader(word: &str) -> Loader {
         "platform" => Loader::Platform,
         _ => Loader::App,
     }
-}
-
-fn word_of(answer: bool) -> &'static str {
-    if answer { "yes" } else { "no" }
 }
 
 // The name of a throwable, or whether the first loader sees the classes of the second.
@@ -33,9 +30,7 @@ fn said(call: &str) -> &'static str {
 fn try_row(wrong: &mut String, row: &str) -> Result<(), AllocError> {
     let (call, wanted) = row.split_once(" = ").unwrap_or((row, ""));
     if said(call) != wanted {
-        wrong.push_str(row)?;
-        wrong.push_str(" but ")?;
-        wrong.push_str(said(call))?;
+        return tell(row, said(call), wrong);
     }
     Ok(())
 }

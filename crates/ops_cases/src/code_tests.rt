@@ -1,10 +1,11 @@
 // A code that holds each instruction, the table of opcodes as other crates expand it, and what stands at a place of small codes.
 use crate::listing::{answer, say_code, say_table};
-use crate::rows::{first_word, say_number, wrong_rows};
+use crate::rows::wrong_rows;
 use crate::test_bytes::{are_bytes, hexadecimal};
 use jsa_ops::{Instr, OpFault, answers_are_exact, behind_is_unread, cut_goes_on, write};
 use std::alloc::{AllocError, Global};
 use std::test::Fail;
+use test_rows::{first_word, say_number};
 
 // The bytes of a bipush of -128 that is written.
 fn say_bipush(alloc: Global, said: &mut String) -> Result<(), AllocError> {
@@ -131,6 +132,6 @@ fn codes_are_read_and_written_as_the_standard_has_them(rt: HostRuntime) -> Resul
     answers_are_exact();
     behind_is_unread();
     cut_goes_on();
-    assert_eq!(rt; wrong_rows(rt.alloc(), "codes", ROWS)?.as_str(), "");
+    assert_eq!(rt; wrong_rows(rt.alloc(), ROWS)?.as_str(), "");
     Ok(())
 }

@@ -1,5 +1,4 @@
 // What no contract says: that a class of the first form is read where memory suffices.
-use crate::rows::tell_wrong;
 use class_tree::ClassTree;
 use classfile_reader::{
     FormFault, Program, each_class_is_named, one_name, one_program, read_class, read_name,
@@ -7,6 +6,7 @@ use classfile_reader::{
 };
 use std::alloc::{AllocError, Global};
 use std::test::Fail;
+use test_rows::tell_wrong;
 
 // `main` puts 40 + 2.
 const PUTS_42: [u8; 160] = [

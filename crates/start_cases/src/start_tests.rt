@@ -1,6 +1,7 @@
 // The names of the required classes.
 use std::alloc::{AllocError, Global};
 use std::test::Fail;
+use test_rows::tell;
 use vm_start::required_name;
 
 fn name_of(number: &str) -> &'static str {
@@ -11,9 +12,7 @@ fn name_of(number: &str) -> &'static str {
 fn try_row(wrong: &mut String, row: &str) -> Result<(), AllocError> {
     let (number, wanted) = row.split_once(" = ").unwrap_or((row, "?"));
     if name_of(number) != wanted {
-        wrong.push_str(row)?;
-        wrong.push_str(" but ")?;
-        wrong.push_str(name_of(number))?;
+        return tell(row, name_of(number), wrong);
     }
     Ok(())
 }

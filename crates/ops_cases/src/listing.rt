@@ -1,9 +1,9 @@
 // A code as it is read, cut within each of its instructions and written again, and the table of opcodes.
-use crate::rows::say_number;
 use crate::test_bytes::hexadecimal;
 use crate::test_code::{CODE, LISTING};
 use jsa_ops::{Instr, OpFault, decode, form_of, is_unsupported, write};
 use std::alloc::{AllocError, Global};
+use test_rows::say_number;
 
 // A line for each opcode: its byte, its mnemonic, its variant and its form.
 macro_rules! row_lines {
