@@ -1,5 +1,5 @@
 // Whole commands over archives: dumps, and runs from what they wrote.
-use crate::rows::wrong_rows;
+use command_rows::wrong_rows;
 use std::test::Fail;
 
 static FROM_ARCHIVES: &str = "\

@@ -1,7 +1,8 @@
 // A class in which any byte is another one runs well or is refused.
-use crate::rows::{say_anew, tell};
+use command_rows::say_anew;
 use std::alloc::{AllocError, Global};
 use std::test::Fail;
+use test_rows::tell;
 
 fn are_lines(bytes: &[u8]) -> bool {
     bytes.iter().all(|b| matches!(b, b'-' | b'~' | b'0'..=b'9'))

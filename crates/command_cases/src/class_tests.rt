@@ -1,5 +1,5 @@
 // Class files that were edited.
-use crate::rows::wrong_rows;
+use command_rows::wrong_rows;
 use std::test::Fail;
 
 // Class files that are not of the first form.

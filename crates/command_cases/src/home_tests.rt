@@ -1,5 +1,5 @@
 // Whole runs over homes, and the making of homes.
-use crate::rows::wrong_rows;
+use command_rows::wrong_rows;
 use std::test::Fail;
 
 // Each listed name has a class file with a byte at least.

@@ -6,22 +6,12 @@ mod archive_tests;
 #[cfg(test)]
 mod asm_rows;
 #[cfg(test)]
-mod bench;
-#[cfg(test)]
 mod byte_tests;
 #[cfg(test)]
-mod changes;
-#[cfg(test)]
 mod class_tests;
-#[cfg(test)]
-mod classes;
 #[cfg(test)]
 mod failure_rows;
 #[cfg(test)]
 mod home_tests;
-#[cfg(test)]
-mod looks;
-#[cfg(test)]
-mod rows;
 #[cfg(test)]
 mod run_tests;

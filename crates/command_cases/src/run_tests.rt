@@ -1,7 +1,7 @@
 // Whole runs over a store and sinks in memory, without a home.
 use crate::asm_rows::ASSEMBLIES;
 use crate::failure_rows::FAILURES;
-use crate::rows::wrong_rows;
+use command_rows::wrong_rows;
 use std::test::Fail;
 
 static RUNS: &str = "\

@@ -1,9 +1,9 @@
 // The calls that put something.
 use crate::bench::{Bench, new_bench};
 use crate::classes::{CLASS_A, DIVIDES, PUTS_42_AND_MINUS_1, PUTS_A_SUM, SHIFTS};
-use crate::rows::first_word;
 use jsa_files::{Files, FilesFault, MAX_FILE, MemoryFiles, MemorySink};
 use std::alloc::{AllocError, Global};
+use test_rows::first_word;
 
 fn number(text: &str) -> Result<u64, FilesFault> {
     match text.parse::<u64>() {

@@ -1,7 +1,7 @@
 // What the answers say, and the calls that look at what a store holds.
-use crate::rows::first_word;
 use jsa_files::{Files, MemoryFiles};
 use std::alloc::{AllocError, Global};
+use test_rows::{first_word, say_number};
 
 // The paths of the first classes of a home h, in the order of their loading.
 static REQUIRED: &str = "\
@@ -53,15 +53,6 @@ pub(crate) fn say_bytes(bytes: &[u8], said: &mut String) -> Result<(), AllocErro
         })?;
     }
     Ok(())
-}
-
-fn decimal(alloc: Global, number: u64) -> Result<String, AllocError> {
-    format!(in alloc; "{number}")
-}
-
-pub(crate) fn say_number(alloc: Global, number: u64, said: &mut String) -> Result<(), AllocError> {
-    let text = decimal(alloc, number)?;
-    said.push_str(text.as_str())
 }
 
 // The number of a path among those of the required classes, and 0 for another.

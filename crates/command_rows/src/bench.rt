@@ -1,9 +1,10 @@
 // The store and the sinks of a row, and the commands over them.
-use crate::looks::{say_bytes, say_number};
+use crate::looks::say_bytes;
 use jsa_command::{run_command, status};
 use jsa_files::{MemoryFiles, MemorySink};
 use std::alloc::{AllocError, Global};
 use std::mem;
+use test_rows::say_number;
 
 #[derive(Drop)]
 pub(crate) struct Bench {
