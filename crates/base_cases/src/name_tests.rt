@@ -252,10 +252,7 @@ fn say_parts(alloc: Global, verb: &str, words: &str, said: &mut String) -> Resul
     say_part(alloc, verb, part, bytes.as_slice(), said)
 }
 
-fn say_word(
-    word: Result<&'static str, AllocError>,
-    said: &mut String,
-) -> Result<(), AllocError> {
+fn say_word(word: Result<&'static str, AllocError>, said: &mut String) -> Result<(), AllocError> {
     said.push_str(word?)
 }
 
