@@ -1,11 +1,7 @@
-//! The tests of archives: the classes of one, its bytes, and each refusal at its edge.
+//! The tests of archives: the classes of one, and its bytes.
 #![tactic(auto)]
 
 #[cfg(test)]
 mod dump_tests;
 #[cfg(test)]
-mod map_tests;
-#[cfg(test)]
 mod plain_tests;
-#[cfg(test)]
-mod test_bytes;
