@@ -10,14 +10,15 @@ use Rattle.plain_classes.specs.Records.{FitsRecord, IsRecord, names_of, are_dist
 use Rattle.plain_classes.specs.Archives.{archive_header, archive_text, has_one_folder, IsArchive}
 use Rattle.archive_dump.specs.declared.fault.DumpFault.{DumpFault}
 use Rattle.archive_dump.specs.declared.fault.DumpFault.TheVariants.{TooMany, TooLarge, Memory}
+use Rattle.archive_dump.specs.declared.dump.TheConstants.{MAX_CLASSES, MAX_ARCHIVE}
 
--- an archive has at most 65,535 classes
+-- so many classes as an archive may have
 abbrev pub IsFew : List PlainClass → Type 0
-IsFew classes = length classes ≤ 65535
+IsFew classes = length classes ≤ MAX_CLASSES
 
--- an archive has at most 67,108,864 bytes
+-- so many bytes as an archive may have
 abbrev pub IsSmall : List PlainClass → Folders → Type 0
-IsSmall classes folders = length (archive_text classes folders) ≤ 67108864
+IsSmall classes folders = length (archive_text classes folders) ≤ MAX_ARCHIVE
 
 -- The bytes are those of the archive of these classes and folders, which are few and small enough and fit where they are
 -- written.

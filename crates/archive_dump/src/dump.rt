@@ -22,7 +22,7 @@ fn dump_few(
     classes: &[PlainClass],
     manifest: &Manifest,
 ) -> Result<Vec<u8>, DumpFault>
-    requires few { length classes.now ≤ 65_535 }
+    requires few { length classes.now ≤ MAX_CLASSES }
     requires classes { IsTrue (records.have_short_texts classes.now) }
     requires manifest { IsTrue (manifests.have_short_texts manifest.now) }
     ensures { spec.Dumps classes.now manifest.now result }
@@ -58,8 +58,8 @@ pub fn dump_static(
     dump_few(alloc, classes, manifest)
 }
 
-/// What is written is an archive, where each class is of the first form with its own name inside, no name stands twice,
-/// and the manifest has one application folder and no other. This does nothing: its contract is a fact for callers.
+/// What is written is an archive, where each class has its own name inside, no name stands twice, and the manifest has one
+/// application folder and no other. This does nothing: its contract is a fact for callers.
 pub fn dumps_are_archives()
     ensures { spec.DumpsAreArchives }
 {}

@@ -158,7 +158,7 @@ fn behind_archive(room: u64, ro_size: u64, folders: &Folders) -> Option<u64>
 
 /// Whether a header, classes of so many bytes and the manifest of these folders are more bytes than an archive may have.
 pub(crate) fn is_too_large(ro_size: u64, folders: &Folders) -> bool
-    ensures { result ≡ nat_lt 67_108_864 (256 + (ro_size + length (manifests.manifest_bytes folders.now))) }
+    ensures { result ≡ nat_lt MAX_ARCHIVE (256 + (ro_size + length (manifests.manifest_bytes folders.now))) }
 {
     behind_archive(MAX_ARCHIVE, ro_size, folders).is_none()
 }

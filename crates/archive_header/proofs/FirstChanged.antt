@@ -3,7 +3,7 @@ use Rattle.std.proofs.Common.{◌≡◌, ℕ, zero, suc, ◌+◌, ◌<◌, true,
 use Rattle.std.specs.Option.{option_map}
 use Rattle.std.specs.Cmp.Lexicographic.{pointwise}
 use Rattle.std.specs.Str.{bytes_eq}
-use Rattle.std.proofs.lemmas.Bool.{eqb-true, eq-eqb}
+use Rattle.std.proofs.lemmas.Bool.{eqb-true, eq-eqb, and_parts, and_from}
 use Rattle.std.proofs.lemmas.Slice.Eq.{bytes_eq-Decides, slice_eq-Decides}
 use Rattle.jsa_base.proofs.Codecs.{some_is}
 use Rattle.archive_header.specs.declared.folders.ListedFile.{ListedFile}
@@ -11,7 +11,6 @@ use Rattle.archive_header.specs.declared.folders.Folder.{Folder}
 use Rattle.archive_header.specs.declared.folders.Folders.{Folders}
 use Rattle.archive_header.specs.Folders.{Stays, IsFirstChanged}
 use Rattle.archive_header.specs.Changes.{is_same_file, is_same_folder, is_same_option, first_other}
-use Rattle.archive_header.proofs.Manifests.{both, joins}
 use Rattle.archive_header.proofs.Places.{folder_of-app}
 
 -- ---- the tests say what is the same
@@ -23,13 +22,13 @@ same_file a b = (takes, gives) where
 
   takes : is_same_file a b ≡ true → a ≡ b
   takes h =
-      let p = both (bytes_eq a.name b.name && eqb a.size b.size) (bytes_eq a.sha256 b.sha256) h in
-      let q = both (bytes_eq a.name b.name) (eqb a.size b.size) p.0 in
+      let p = and_parts (bytes_eq a.name b.name && eqb a.size b.size) (bytes_eq a.sha256 b.sha256) h in
+      let q = and_parts (bytes_eq a.name b.name) (eqb a.size b.size) p.0 in
       rebuilt ((bytes_eq-Decides a.name b.name).0 q.0) (eqb-true a.size b.size q.1) ((bytes_eq-Decides a.sha256 b.sha256).0 p.1)
 
   gives : a ≡ b → is_same_file a b ≡ true
-  gives e = joins (bytes_eq a.name b.name && eqb a.size b.size) (bytes_eq a.sha256 b.sha256)
-      (joins (bytes_eq a.name b.name) (eqb a.size b.size) ((bytes_eq-Decides a.name b.name).1 (ap (λ (x : ListedFile). x.name) e)) (eq-eqb a.size b.size (ap (λ (x : ListedFile). x.size) e)))
+  gives e = and_from (bytes_eq a.name b.name && eqb a.size b.size) (bytes_eq a.sha256 b.sha256)
+      (and_from (bytes_eq a.name b.name) (eqb a.size b.size) ((bytes_eq-Decides a.name b.name).1 (ap (λ (x : ListedFile). x.name) e)) (eq-eqb a.size b.size (ap (λ (x : ListedFile). x.size) e)))
       ((bytes_eq-Decides a.sha256 b.sha256).1 (ap (λ (x : ListedFile). x.sha256) e))
 
 pub same_folder : (a b : Folder) → Decides (is_same_folder a b) (a ≡ b)
@@ -42,11 +41,11 @@ same_folder a b = (takes, gives) where
 
   takes : is_same_folder a b ≡ true → a ≡ b
   takes h =
-      let p = both (bytes_eq a.path b.path) (pointwise is_same_file a.files b.files) h in
+      let p = and_parts (bytes_eq a.path b.path) (pointwise is_same_file a.files b.files) h in
       rebuilt ((bytes_eq-Decides a.path b.path).0 p.0) (files.0 p.1)
 
   gives : a ≡ b → is_same_folder a b ≡ true
-  gives e = joins (bytes_eq a.path b.path) (pointwise is_same_file a.files b.files) ((bytes_eq-Decides a.path b.path).1 (ap (λ (x : Folder). x.path) e)) (files.1 (ap (λ (x : Folder). x.files) e))
+  gives e = and_from (bytes_eq a.path b.path) (pointwise is_same_file a.files b.files) ((bytes_eq-Decides a.path b.path).1 (ap (λ (x : Folder). x.path) e)) (files.1 (ap (λ (x : Folder). x.files) e))
 
 same_option : (a b : Option Folder) → Decides (is_same_option a b) (a ≡ b)
 same_option None None = (λ h. refl, λ e. refl)

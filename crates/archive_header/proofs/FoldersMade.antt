@@ -5,6 +5,7 @@ use Rattle.std.specs.Option.{option_or}
 use Rattle.std.proofs.lemmas.List.{append-nil, length-append, map-append}
 use Rattle.std.proofs.lemmas.List.Folds.{list_all-append}
 use Rattle.std.proofs.lemmas.Grind.{flat_map-append}
+use Rattle.std.proofs.lemmas.Bool.{and_from}
 use Rattle.jsa_files.specs.Store.{Contents}
 use Rattle.jsa_files.specs.Listing.{class_names}
 use Rattle.jsa_files.specs.declared.fault.FilesFault.{FilesFault}
@@ -13,7 +14,6 @@ use Rattle.archive_header.specs.declared.folders.Folder.{Folder}
 use Rattle.archive_header.specs.Folders.{is_folder}
 use Rattle.archive_header.specs.Manifests.{folder_now, limit_of, limit_from, names_to, is_small, files_of, paths_of}
 use Rattle.archive_header.specs.Making.{names_from, AddsFolder, AreMade}
-use Rattle.archive_header.proofs.Manifests.{joins}
 use Rattle.archive_header.proofs.Listed.{dropped}
 
 -- ---- over any store
@@ -29,8 +29,8 @@ made_more path before mid now folders new m a =
     subst (λ (fs : List Folder). AreMade (paths_of fs) before now fs) (sym a.is)
     (record {
       paths_are = refl;
-      listed = list_all-append is_folder folders (f ∷ []) ∙ joins (list_all is_folder folders) (list_all is_folder (f ∷ [])) m.listed (joins (is_folder f) true a.made.listed refl);
-      small = ap (list_all is_small) files ∙ list_all-append is_small (files_of folders) f.files ∙ joins (list_all is_small (files_of folders)) (list_all is_small f.files) m.small a.made.small;
+      listed = list_all-append is_folder folders (f ∷ []) ∙ and_from (list_all is_folder folders) (list_all is_folder (f ∷ [])) m.listed (and_from (is_folder f) true a.made.listed refl);
+      small = ap (list_all is_small) files ∙ list_all-append is_small (files_of folders) f.files ∙ and_from (list_all is_small (files_of folders)) (list_all is_small f.files) m.small a.made.small;
       number = omega (arith, number, m.number, a.made.number);
     })
 

@@ -7,7 +7,7 @@ use Rattle.std.specs.Ordering.{nat_cmp, is_lt}
 use Rattle.std.specs.Str.{is_utf8}
 use Rattle.std.specs.Cmp.Lexicographic.{slice_cmp}
 use Rattle.std.specs.declared.cmp.Ordering.TheVariants.{Less}
-use Rattle.std.proofs.lemmas.Bool.{lt-ltb}
+use Rattle.std.proofs.lemmas.Bool.{lt-ltb, and_from}
 use Rattle.std.proofs.lemmas.List.{append-nil}
 use Rattle.std.proofs.Math.Seq.{drop-length}
 use Rattle.jsa_base.proofs.Codecs.{some_is}
@@ -19,13 +19,12 @@ use Rattle.archive_header.specs.declared.folders.ListedFile.{ListedFile}
 use Rattle.archive_header.specs.Folders.{has_text_name, is_before, ascends}
 use Rattle.archive_header.specs.Manifests.{listed_at, large_at, first_large, is_small}
 use Rattle.archive_header.specs.Making.{IsListed, HaveNames, Adds, IsMade}
-use Rattle.archive_header.proofs.Manifests.{joins}
 
 -- ---- what such files are
 
 texts_more : (file : Option ListedFile) (name : List ℕ) (rest : List ListedFile) → IfSome file (IsListed name) → list_all has_text_name rest ≡ true → list_all has_text_name (option_to_list file ++ rest) ≡ true
 texts_more None name rest h k = k
-texts_more (Some f) name rest h k = joins (has_text_name f) (list_all has_text_name rest) h.1 k
+texts_more (Some f) name rest h k = and_from (has_text_name f) (list_all has_text_name rest) h.1 k
 
 pub have_texts : (files : List ListedFile) (names : List (List ℕ)) → HaveNames files names → list_all has_text_name files ≡ true
 have_texts files [] h = ap (list_all has_text_name) h
@@ -33,7 +32,7 @@ have_texts files (n ∷ ns) h = ap (list_all has_text_name) h.3 ∙ texts_more h
 
 small_more : (file : Option ListedFile) (name : List ℕ) (rest : List ListedFile) → IfSome file (IsListed name) → list_all is_small rest ≡ true → list_all is_small (option_to_list file ++ rest) ≡ true
 small_more None name rest h k = k
-small_more (Some f) name rest h k = joins (is_small f) (list_all is_small rest) h.2 k
+small_more (Some f) name rest h k = and_from (is_small f) (list_all is_small rest) h.2 k
 
 pub are_small : (files : List ListedFile) (names : List (List ℕ)) → HaveNames files names → list_all is_small files ≡ true
 are_small files [] h = ap (list_all is_small) h
@@ -58,7 +57,7 @@ stands_before f files (n ∷ ns) h all = ap (is_before f) h.3 ∙ before_more f 
 ascends_more : (file : Option ListedFile) (name : List ℕ) (rest : List ListedFile) (names : List (List ℕ)) → IfSome file (IsListed name) → HaveNames rest names → AllByRecursion (λ y. slice_cmp nat_cmp name y ≡ Less) names → ascends rest ≡ true → ascends (option_to_list file ++ rest) ≡ true
 ascends_more None name rest names h have all k = k
 ascends_more (Some f) name rest names h have all k =
-    joins (is_before f rest) (ascends rest) (stands_before f rest names have (subst (λ (m : List ℕ). AllByRecursion (λ y. slice_cmp nat_cmp m y ≡ Less) names) (sym h.0) all)) k
+    and_from (is_before f rest) (ascends rest) (stands_before f rest names have (subst (λ (m : List ℕ). AllByRecursion (λ y. slice_cmp nat_cmp m y ≡ Less) names) (sym h.0) all)) k
 
 pub do_ascend : (files : List ListedFile) (names : List (List ℕ)) → HaveNames files names → Ascend names → ascends files ≡ true
 unfolding IsStrictlySortedBy
@@ -72,9 +71,9 @@ folder_made path files names before now text have sorted few is =
     let low : length files < 0x1_0000_0000 = omega (arith, number, few) in
     record {
       path_is = refl;
-      listed = joins (is_utf8 path && nat_lt (length files) 0x1_0000_0000 && list_all has_text_name files) (ascends files)
-          (joins (is_utf8 path && nat_lt (length files) 0x1_0000_0000) (list_all has_text_name files)
-          (joins (is_utf8 path) (nat_lt (length files) 0x1_0000_0000) text (lt-ltb (length files) 0x1_0000_0000 low))
+      listed = and_from (is_utf8 path && nat_lt (length files) 0x1_0000_0000 && list_all has_text_name files) (ascends files)
+          (and_from (is_utf8 path && nat_lt (length files) 0x1_0000_0000) (list_all has_text_name files)
+          (and_from (is_utf8 path) (nat_lt (length files) 0x1_0000_0000) text (lt-ltb (length files) 0x1_0000_0000 low))
           (have_texts files names have))
           (do_ascend files names have sorted);
       small = are_small files names have;

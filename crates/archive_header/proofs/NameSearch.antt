@@ -6,7 +6,7 @@ use Rattle.std.specs.Option.{option_map, IfSome}
 use Rattle.std.specs.Result.{result_ok}
 use Rattle.std.specs.Ordering.{nat_cmp, ordering_index, ordering_reverse, is_lt}
 use Rattle.std.proofs.Common.{Ordering, Less, Equal, Greater}
-use Rattle.std.proofs.lemmas.Bool.{ltb-true, ltb-false}
+use Rattle.std.proofs.lemmas.Bool.{ltb-true, ltb-false, and_parts}
 use Rattle.std.specs.Cmp.Lexicographic.{slice_cmp}
 use Rattle.std.specs.FinMap.{slice_cmp-IsAntisymmetric, nat_cmp-IsAntisymmetric}
 use Rattle.std.proofs.lemmas.Cmp.{nat_list_cmp_total}
@@ -14,7 +14,6 @@ use Rattle.std.proofs.lemmas.Option.{slice_get-get_or, get_or_from_slice_get, sl
 use Rattle.jsa_base.proofs.Codecs.{some_is}
 use Rattle.archive_header.specs.declared.folders.ListedFile.{ListedFile}
 use Rattle.archive_header.specs.Folders.{name_at, IsPlaceIn, is_before, ascends}
-use Rattle.archive_header.proofs.Manifests.{both}
 
 -- ---- names
 
@@ -60,7 +59,7 @@ from_head : (name : List ℕ) (f : ListedFile) (files : List ListedFile) → is_
 from_head name f [] before h j d lt = absurd (omega (arith, lt))
 from_head name f (g ∷ files) before h zero d lt = rises f.name g.name name (is_less (slice_cmp nat_cmp f.name g.name) before)
 from_head name f (g ∷ files) before h (suc j) d lt =
-    let p = both (is_before g files) (ascends files) h in
+    let p = and_parts (is_before g files) (ascends files) h in
     let first : rank name f ≤ rank name g = rises f.name g.name name (is_less (slice_cmp nat_cmp f.name g.name) before) in
     let later : rank name g ≤ rank name (get_or files j d) = from_head name g files p.0 p.1 j d (omega (arith, lt)) in
     omega (arith, first, later)
@@ -69,10 +68,10 @@ ranks_rise : (name : List ℕ) (files : List ListedFile) → ascends files ≡ t
 ranks_rise name [] h i j d le lt = absurd (omega (arith, lt))
 ranks_rise name (f ∷ files) h zero zero d le lt = omega arith
 ranks_rise name (f ∷ files) h zero (suc j) d le lt =
-    let p = both (is_before f files) (ascends files) h in from_head name f files p.0 p.1 j d (omega (arith, lt))
+    let p = and_parts (is_before f files) (ascends files) h in from_head name f files p.0 p.1 j d (omega (arith, lt))
 ranks_rise name (f ∷ files) h (suc i) zero d le lt = absurd (omega (arith, le))
 ranks_rise name (f ∷ files) h (suc i) (suc j) d le lt =
-    ranks_rise name files (both (is_before f files) (ascends files) h).1 i j d (omega (arith, le)) (omega (arith, lt))
+    ranks_rise name files (and_parts (is_before f files) (ascends files) h).1 i j d (omega (arith, le)) (omega (arith, lt))
 
 -- ---- what the search says
 

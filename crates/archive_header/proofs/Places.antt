@@ -3,21 +3,20 @@ use Rattle.std.proofs.Common.{◌≡◌, ℕ, zero, suc, ◌+◌, ◌-◌, ◌<�
 use Rattle.std.specs.List.{list_all, AllByRecursion}
 use Rattle.std.specs.Option.{option_copied, IfSome}
 use Rattle.std.specs.Str.{is_utf8}
-use Rattle.std.proofs.lemmas.Bool.{ne_eqb, ltb-true}
+use Rattle.std.proofs.lemmas.Bool.{ne_eqb, ltb-true, and_parts}
 use Rattle.jsa_base.proofs.Codecs.{some_is}
 use Rattle.archive_header.specs.declared.folders.ListedFile.{ListedFile}
 use Rattle.archive_header.specs.declared.folders.Folder.{Folder}
 use Rattle.archive_header.specs.declared.folders.Folders.{Folders}
 use Rattle.archive_header.specs.Folders.{folder_of, has_text_name, is_folder, is_folder_or_none, are_folders, ascends}
 use Rattle.archive_header.specs.ManifestBytes.{HasFewFiles}
-use Rattle.archive_header.proofs.Manifests.{both}
 
 -- ---- tests on all of a list
 
 pub all_at : {A : Type 0} (test : A → Bool) (xs : List A) (k : ℕ) (x : A) → list_all test xs ≡ true → slice_get xs k ≡ Some x → test x ≡ true
 all_at test [] k x h e = absurd cc
-all_at test (y ∷ xs) zero x h e = subst (λ z. test z ≡ true) (some_is y x e) (both (test y) (list_all test xs) h).0
-all_at test (y ∷ xs) (suc k) x h e = all_at test xs k x (both (test y) (list_all test xs) h).1 e
+all_at test (y ∷ xs) zero x h e = subst (λ z. test z ≡ true) (some_is y x e) (and_parts (test y) (list_all test xs) h).0
+all_at test (y ∷ xs) (suc k) x h e = all_at test xs k x (and_parts (test y) (list_all test xs) h).1 e
 
 -- ---- what is true of a folder
 
@@ -29,9 +28,9 @@ record Listed (f : Folder) : Type 0 where
 
 listed : (f : Folder) → is_folder f ≡ true → Listed f
 listed f h =
-    let a = both (is_utf8 f.path && ltb (length f.files) 0x1_0000_0000 && list_all has_text_name f.files) (ascends f.files) h in
-    let b = both (is_utf8 f.path && ltb (length f.files) 0x1_0000_0000) (list_all has_text_name f.files) a.0 in
-    let c = both (is_utf8 f.path) (ltb (length f.files) 0x1_0000_0000) b.0 in
+    let a = and_parts (is_utf8 f.path && ltb (length f.files) 0x1_0000_0000 && list_all has_text_name f.files) (ascends f.files) h in
+    let b = and_parts (is_utf8 f.path && ltb (length f.files) 0x1_0000_0000) (list_all has_text_name f.files) a.0 in
+    let c = and_parts (is_utf8 f.path) (ltb (length f.files) 0x1_0000_0000) b.0 in
     record { path = c.0; few = ltb-true (length f.files) 0x1_0000_0000 c.1; names = b.1; ascending = a.1 }
 
 pub path_is_text : (f : Folder) → is_folder f ≡ true → is_utf8 f.path ≡ true
@@ -48,7 +47,7 @@ few_files f h = (listed f h).few
 
 pub all_few : (fs : List Folder) → list_all is_folder fs ≡ true → AllByRecursion HasFewFiles fs
 all_few [] h = tt
-all_few (f ∷ fs) h = let p = both (is_folder f) (list_all is_folder fs) h in (few_files f p.0, all_few fs p.1)
+all_few (f ∷ fs) h = let p = and_parts (is_folder f) (list_all is_folder fs) h in (few_files f p.0, all_few fs p.1)
 
 -- ---- the folders by number
 
@@ -60,9 +59,9 @@ pub record AllListed (m : Folders) : Type 0 where
 
 pub all_listed : (m : Folders) → are_folders m ≡ true → AllListed m
 all_listed m h =
-    let a = both (is_folder_or_none m.boot && is_folder_or_none m.platform && ltb (length m.app) 0xffff_ffff) (list_all is_folder m.app) h in
-    let b = both (is_folder_or_none m.boot && is_folder_or_none m.platform) (ltb (length m.app) 0xffff_ffff) a.0 in
-    let c = both (is_folder_or_none m.boot) (is_folder_or_none m.platform) b.0 in
+    let a = and_parts (is_folder_or_none m.boot && is_folder_or_none m.platform && ltb (length m.app) 0xffff_ffff) (list_all is_folder m.app) h in
+    let b = and_parts (is_folder_or_none m.boot && is_folder_or_none m.platform) (ltb (length m.app) 0xffff_ffff) a.0 in
+    let c = and_parts (is_folder_or_none m.boot) (is_folder_or_none m.platform) b.0 in
     record { boot = c.0; platform = c.1; few = ltb-true (length m.app) 0xffff_ffff b.1; app = a.1 }
 
 one_listed : (o : Option Folder) (f : Folder) → is_folder_or_none o ≡ true → o ≡ Some f → is_folder f ≡ true

@@ -2,6 +2,7 @@
 use Rattle.std.specs.Prelude.{◌≡◌, ℕ, ◌+◌, ◌<◌, ◌≤◌, List, [], ◌∷◌, ◌++◌, length, IsTrue, Option, Some, None, Result, Ok, Err, ⊤}
 use Rattle.std.specs.List.{list_all}
 use Rattle.std.specs.Option.{option_to_list, IfSome}
+use Rattle.jsa_files.specs.declared.TheConstants.{MAX_FILE, MAX_NAMES}
 use Rattle.jsa_files.specs.declared.fault.FilesFault.{FilesFault}
 use Rattle.jsa_files.specs.declared.fault.FilesFault.TheVariants.{Failed, TooLarge, TooMany, Memory}
 use Rattle.jsa_files.specs.Store.{Store, Contents}
@@ -26,8 +27,8 @@ Answers told limit Is (Err Memory) = ⊤
 -- What is too large or too many is above the limit.
 abbrev pub IsAbove : FilesFault → Type 0
 IsAbove Failed = ⊤
-IsAbove (TooLarge size) = 67_108_864 < size
-IsAbove (TooMany count) = 262_144 < count
+IsAbove (TooLarge size) = MAX_FILE < size
+IsAbove (TooMany count) = MAX_NAMES < count
 IsAbove Memory = ⊤
 
 -- a file of this name, which is small enough

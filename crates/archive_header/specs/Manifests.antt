@@ -4,6 +4,7 @@ use Rattle.std.specs.List.{filter_map, flat_map, list_all}
 use Rattle.std.specs.Option.{option_map, option_or, option_and_then, option_to_list}
 use Rattle.std.specs.FinMap.{get}
 use Rattle.sha2.specs.Sha256.{sha256}
+use Rattle.jsa_files.specs.declared.TheConstants.{MAX_FILE, MAX_NAMES}
 use Rattle.jsa_files.specs.declared.fault.FilesFault.{FilesFault}
 use Rattle.jsa_files.specs.declared.fault.FilesFault.TheVariants.{Failed, TooLarge, TooMany, Memory}
 use Rattle.jsa_files.specs.Store.{Store, Contents}
@@ -48,7 +49,7 @@ manifest_now contents lists = record {
 
 -- a file of more than 64 MiB
 abbrev pub too_large : List ℕ → Option FilesFault
-too_large bytes = if nat_lt 67_108_864 (length bytes) then Some (TooLarge (length bytes)) else None
+too_large bytes = if nat_lt MAX_FILE (length bytes) then Some (TooLarge (length bytes)) else None
 
 -- a file of a folder that is too large
 abbrev pub large_at : Contents → List ℕ → List ℕ → Option FilesFault
@@ -61,7 +62,7 @@ first_large contents folder (name ∷ names) = option_or (large_at contents fold
 
 -- more names than are listed
 abbrev pub too_many : ℕ → Option FilesFault
-too_many count = if nat_lt 262_144 count then Some (TooMany count) else None
+too_many count = if nat_lt MAX_NAMES count then Some (TooMany count) else None
 
 -- What a folder with these names meets first, where the folders before it have so many: too many names in its own list,
 -- too many in the lists so far, or a file that is too large.
@@ -111,15 +112,15 @@ abbrev pub files_in : Folders → List ListedFile
 files_in m = (files_of (option_to_list m.boot) ++ files_of (option_to_list m.platform)) ++ files_of m.app
 
 abbrev pub is_small : ListedFile → Bool
-is_small file = not (nat_lt 67_108_864 file.size)
+is_small file = not (nat_lt MAX_FILE file.size)
 
 -- Whether the store tells or not: a manifest has small files, and not too many of them. What is too large or too many
 -- is above the limit.
 abbrev pub MakesSmall : MakeAnswer → Type 0
-MakesSmall (Ok m) = IsTrue (list_all is_small (files_in m)) × (length (files_in m) ≤ 262_144)
+MakesSmall (Ok m) = IsTrue (list_all is_small (files_in m)) × (length (files_in m) ≤ MAX_NAMES)
 MakesSmall (Err Failed) = ⊤
-MakesSmall (Err (TooLarge size)) = 67_108_864 < size
-MakesSmall (Err (TooMany count)) = 262_144 < count
+MakesSmall (Err (TooLarge size)) = MAX_FILE < size
+MakesSmall (Err (TooMany count)) = MAX_NAMES < count
 MakesSmall (Err Memory) = ⊤
 
 -- the folders of a manifest by their paths

@@ -77,11 +77,11 @@ fn one_folder<F: Files>(
     files: &mut F,
 ) -> Result<Option<Folder>, FilesFault>
     requires one { length paths.now ≤ 1 }
-    requires before { count.old ≤ 262_144 }
+    requires before { count.old ≤ MAX_NAMES }
     ensures answer { Answers (F.store files.old) (λ c. spec.limit_from c count.old paths.now)
         (λ c folder. (folder ≡ spec.one_now c paths.now) × (count.new ≡ names_from c count.old paths.now)) result }
     ensures made { IfOk result (λ folder. AreMade paths.now count.old count.new (option_to_list folder)) }
-    ensures few { OnOk result (count.new ≤ 262_144) }
+    ensures few { OnOk result (count.new ≤ MAX_NAMES) }
     ensures fault { IfErr result IsAbove }
     ensures store { F.store files.new ≡ F.store files.old }
     ensures cause { CountsFailure (F.read_faults files.old) (F.read_faults files.new) result }
@@ -110,11 +110,11 @@ fn some_folders<F: Files>(
     count: &mut u32,
     files: &mut F,
 ) -> Result<Items<Folder>, FilesFault>
-    requires { count.old ≤ 262_144 }
+    requires { count.old ≤ MAX_NAMES }
     ensures answer { Answers (F.store files.old) (λ c. spec.limit_from c count.old paths.now)
         (λ c folders. (folders ≡ map (spec.folder_now c) paths.now) × (count.new ≡ names_from c count.old paths.now)) result }
     ensures made { IfOk result (λ folders. AreMade paths.now count.old count.new folders) }
-    ensures few { OnOk result (count.new ≤ 262_144) }
+    ensures few { OnOk result (count.new ≤ MAX_NAMES) }
     ensures fault { IfErr result IsAbove }
     ensures store { F.store files.new ≡ F.store files.old }
     ensures cause { CountsFailure (F.read_faults files.old) (F.read_faults files.new) result }
@@ -139,11 +139,11 @@ fn push_folder<F: Files>(
     folders: &mut Items<Folder>,
     files: &mut F,
 ) -> Result<(), FilesFault>
-    requires { count.old ≤ 262_144 }
+    requires { count.old ≤ MAX_NAMES }
     ensures answer { Answers (F.store files.old) (λ c. spec.limit_of c count.old path.now (class_names c path.now))
         (λ c _. (folders.new ≡ folders.old ++ spec.folder_now c path.now ∷ []) × (count.new ≡ spec.names_to c count.old path.now)) result }
     ensures made { OnOk result (AddsFolder path.now count.old count.new folders.old folders.new) }
-    ensures few { OnOk result (count.new ≤ 262_144) }
+    ensures few { OnOk result (count.new ≤ MAX_NAMES) }
     ensures fault { IfErr result IsAbove }
     ensures store { F.store files.new ≡ F.store files.old }
     ensures cause { CountsFailure (F.read_faults files.old) (F.read_faults files.new) result }
@@ -169,11 +169,11 @@ fn listed_folder<F: Files>(
     count: &mut u32,
     files: &mut F,
 ) -> Result<Folder, FilesFault>
-    requires { count.old ≤ 262_144 }
+    requires { count.old ≤ MAX_NAMES }
     ensures answer { Answers (F.store files.old) (λ c. spec.limit_of c count.old path.now (class_names c path.now))
         (λ c folder. (folder ≡ spec.folder_now c path.now) × (count.new ≡ spec.names_to c count.old path.now)) result }
     ensures made { IfOk result (λ folder. IsMade path.now count.old count.new folder) }
-    ensures few { OnOk result (count.new ≤ 262_144) }
+    ensures few { OnOk result (count.new ≤ MAX_NAMES) }
     ensures fault { IfErr result IsAbove }
     ensures store { F.store files.new ≡ F.store files.old }
     ensures cause { CountsFailure (F.read_faults files.old) (F.read_faults files.new) result }
@@ -196,13 +196,13 @@ fn counted_folder<F: Files>(
     files: &mut F,
 ) -> Result<Folder, FilesFault>
     requires order { Ascend names.now }
-    requires number { length names.now ≤ 262_144 }
-    requires before { count.old ≤ 262_144 }
+    requires number { length names.now ≤ MAX_NAMES }
+    requires before { count.old ≤ MAX_NAMES }
     ensures answer { Answers (F.store files.old) (λ c. option_or (spec.too_many (count.old + length names.now)) (spec.first_large c path.now names.now))
         (λ c folder. folder ≡ record { path = path.now; files = filter_map (spec.listed_at c path.now) names.now }) result }
     ensures count { OnOk result (count.new ≡ count.old + length names.now) }
     ensures made { IfOk result (λ folder. IsMade path.now count.old count.new folder) }
-    ensures few { OnOk result (count.new ≤ 262_144) }
+    ensures few { OnOk result (count.new ≤ MAX_NAMES) }
     ensures fault { IfErr result IsAbove }
     ensures store { F.store files.new ≡ F.store files.old }
     ensures cause { CountsFailure (F.read_faults files.old) (F.read_faults files.new) result }

@@ -90,7 +90,7 @@ fn file(alloc: Global, cursor: &mut Cursor<'_>) -> Result<ListedFile, Unread>
     Ok(ListedFile { name, size, sha256 })
 }
 
-#[tactic(auto, using(crate::proofs::Loop::goes_on, crate::proofs::Loop::ends, crate::proofs::Loop::is_done))]
+#[tactic(auto, using(jsa_base::proofs::Loops::goes_on, crate::proofs::Loop::ends, jsa_base::proofs::Loops::is_done))]
 fn some_files(
     alloc: Global,
     count: u32,
@@ -134,7 +134,7 @@ fn one_or_none(alloc: Global, count: u32, cursor: &mut Cursor<'_>) -> Result<Opt
     Err(Unread::NotManifest)
 }
 
-#[tactic(auto, using(crate::proofs::Loop::goes_on, crate::proofs::Loop::ends, crate::proofs::Loop::is_done))]
+#[tactic(auto, using(jsa_base::proofs::Loops::goes_on, crate::proofs::Loop::ends, jsa_base::proofs::Loops::is_done))]
 fn some_folders(alloc: Global, count: u32, cursor: &mut Cursor<'_>) -> Result<Items<Folder>, Unread>
     ensures { Gives result cursor.new (times spec.folder_at count cursor.old) }
 {

@@ -1,13 +1,11 @@
 //! Writes the folders of a manifest.
 ghost use Rattle.std.specs.Prelude.{◌≡◌, ◌<◌, ◌^◌, ◌++◌, length, IsTrue, OnOk};
 ghost use Rattle.std.specs.List.{flat_map, list_all, AllByRecursion};
-ghost use Rattle.jsa_base.specs.Reading.{IsBytes};
-ghost use Rattle.jsa_base.specs.LowFirst.{low_u4, low_text, low_counted};
 ghost use Rattle.archive_header.specs.Folders as lists;
 ghost use Rattle.archive_header.specs.ManifestBytes as spec;
 
 use crate::folders::{Folder, Folders, ListedFile};
-use jsa_base::{Cursor, low_u4, low_u8};
+use jsa_base::{Cursor, put_low_text, put_low_u4, put_low_u8};
 use std::alloc::AllocError;
 
 fn has_short_name(file: &ListedFile) -> bool
@@ -52,15 +50,6 @@ pub(crate) fn have_short_texts(folders: &Folders) -> bool
         && all_have_short_texts(folders.app.as_slice())
 }
 
-// Bytes behind their number in four bytes.
-fn push_text(bytes: &mut Vec<u8>, text: &[u8]) -> Result<(), AllocError>
-    requires { length text.now < 2 ^ 32 }
-    ensures { OnOk result (bytes.new.items ≡ bytes.old.items ++ low_text text.now) }
-{
-    bytes.extend_from_slice(&low_u4(text.len() as u32))?;
-    bytes.extend_from_slice(text)
-}
-
 fn number_fits(number: u64)
     ensures { number < 2 ^ 64 }
 {}
@@ -87,8 +76,8 @@ fn push_file(bytes: &mut Vec<u8>, file: &ListedFile) -> Result<(), AllocError>
     ensures fits { spec.FitsFile file.now }
 {
     fits(file);
-    push_text(bytes, file.name.as_slice())?;
-    bytes.extend_from_slice(&low_u8(file.size))?;
+    put_low_text(bytes, file.name.as_slice())?;
+    put_low_u8(bytes, file.size)?;
     bytes.extend_from_slice(&file.sha256)
 }
 
@@ -116,8 +105,8 @@ fn push_folder(bytes: &mut Vec<u8>, folder: &Folder) -> Result<(), AllocError>
     let path = folder.path.as_slice();
     let files = folder.files.as_slice();
     Cursor::new(path).are_bytes();
-    push_text(bytes, path)?;
-    bytes.extend_from_slice(&low_u4(files.len() as u32))?;
+    put_low_text(bytes, path)?;
+    put_low_u4(bytes, files.len() as u32)?;
     push_files(bytes, files)
 }
 
@@ -162,9 +151,9 @@ fn push_counts(bytes: &mut Vec<u8>, folders: &Folders) -> Result<(), AllocError>
     requires { length folders.now.app < 2 ^ 32 }
     ensures { OnOk result (bytes.new.items ≡ bytes.old.items ++ spec.counts folders.now) }
 {
-    bytes.extend_from_slice(&low_u4(count(&folders.boot)))?;
-    bytes.extend_from_slice(&low_u4(count(&folders.platform)))?;
-    bytes.extend_from_slice(&low_u4(folders.app.len() as u32))
+    put_low_u4(bytes, count(&folders.boot))?;
+    put_low_u4(bytes, count(&folders.platform))?;
+    put_low_u4(bytes, folders.app.len() as u32)
 }
 
 /// The numbers of folders, and the folders, without the zeros behind them.

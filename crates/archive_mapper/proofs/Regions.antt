@@ -1,13 +1,12 @@
 -- What the tests of a plain archive's numbers, regions and header bytes say of the bytes.
 use Rattle.std.proofs.Common.{◌≡◌, ℕ, ◌+◌, ◌-◌, ◌≤◌, true, ◌&&◌, eqb, leb, List, ◌++◌, length, take, drop, replicate, Ok, refl, sym, ap, ◌∙◌, arith}
-use Rattle.std.proofs.lemmas.Bool.{eqb-true, eq-eqb, leb-true, le-leb}
+use Rattle.std.proofs.lemmas.Bool.{eqb-true, eq-eqb, leb-true, le-leb, and_from, and_parts}
 use Rattle.std.proofs.lemmas.List.{take_at, drop_at, take-append-drop, length-append, length-take-le, length-drop}
 use Rattle.sha2.specs.Sha256.{sha256}
 use Rattle.sha2.proofs.Facts256.{length-sha256}
 use Rattle.archive_header.specs.declared.header.Header.{Header}
 use Rattle.archive_header.specs.Header.{fields, header_bytes, FitsHeader, header_of}
 use Rattle.archive_header.proofs.Headers.{read_again}
-use Rattle.archive_header.proofs.Manifests.{both, joins}
 use Rattle.plain_classes.specs.Archives.{header_for}
 use Rattle.archive_mapper.specs.Mapping.{body_digest, StandsAlone}
 use Rattle.archive_mapper.specs.Fronts.{front_of, has_plain_numbers, has_whole_regions, has_its_bytes, is_plain}
@@ -35,15 +34,15 @@ length-header h fits = omega (arith, length-append (fields h) (sha256 (fields h)
 numbers_are : (h : Header) → has_plain_numbers h ≡ true → (h.base ≡ 0x8_0000_0000) × ((h.rw_size ≡ 0) × ((h.bitmap_size ≡ 0) × (h.root ≡ 0)))
 unfolding has_plain_numbers
 numbers_are h is =
-    let a = both (eqb h.base 0x8_0000_0000 && eqb h.rw_size 0 && eqb h.bitmap_size 0) (eqb h.root 0) is in
-    let b = both (eqb h.base 0x8_0000_0000 && eqb h.rw_size 0) (eqb h.bitmap_size 0) a.0 in
-    let c = both (eqb h.base 0x8_0000_0000) (eqb h.rw_size 0) b.0 in
+    let a = and_parts (eqb h.base 0x8_0000_0000 && eqb h.rw_size 0 && eqb h.bitmap_size 0) (eqb h.root 0) is in
+    let b = and_parts (eqb h.base 0x8_0000_0000 && eqb h.rw_size 0) (eqb h.bitmap_size 0) a.0 in
+    let c = and_parts (eqb h.base 0x8_0000_0000) (eqb h.rw_size 0) b.0 in
     (eqb-true h.base 0x8_0000_0000 c.0, (eqb-true h.rw_size 0 c.1, (eqb-true h.bitmap_size 0 b.1, eqb-true h.root 0 a.1)))
 
 regions_are : (bytes : List ℕ) (h : Header) → has_whole_regions bytes h ≡ true → (h.ro_size ≤ length bytes - 256) × (h.manifest_size ≡ length bytes - 256 - h.ro_size)
 unfolding has_whole_regions
 regions_are bytes h is =
-    let a = both (leb h.ro_size (length bytes - 256)) (eqb h.manifest_size (length bytes - 256 - h.ro_size)) is in
+    let a = and_parts (leb h.ro_size (length bytes - 256)) (eqb h.manifest_size (length bytes - 256 - h.ro_size)) is in
     (leb-true h.ro_size (length bytes - 256) a.0, eqb-true h.manifest_size (length bytes - 256 - h.ro_size) a.1)
 
 bytes_are : (bytes : List ℕ) (h : Header) → has_its_bytes bytes h ≡ true → take 256 bytes ≡ header_bytes h
@@ -59,8 +58,8 @@ record Held (bytes : List ℕ) (h : Header) : Type 0 where
 held : (bytes : List ℕ) (h : Header) → is_plain bytes h ≡ true → Held bytes h
 unfolding is_plain
 held bytes h is =
-    let a = both (has_its_bytes bytes h && has_plain_numbers h) (has_whole_regions bytes h) is in
-    let b = both (has_its_bytes bytes h) (has_plain_numbers h) a.0 in
+    let a = and_parts (has_its_bytes bytes h && has_plain_numbers h) (has_whole_regions bytes h) is in
+    let b = and_parts (has_its_bytes bytes h) (has_plain_numbers h) a.0 in
     record { numbers = b.1; regions = a.1; bytes_is = b.0 }
 
 pub region_fits : (bytes : List ℕ) (h : Header) → is_plain bytes h ≡ true → h.ro_size ≤ length (drop 256 bytes)
@@ -134,7 +133,7 @@ text_regions bytes ro manifest count is =
     let size : length bytes - 256 ≡ length ro + length manifest = sym (length-drop 256 bytes) ∙ ap length (behind_is bytes ro manifest count is) ∙ length-append ro manifest in
     let le : length ro ≤ length bytes - 256 = omega (arith, size) in
     let rest : length manifest ≡ length bytes - 256 - length ro = omega (arith, size) in
-    joins (leb (length ro) (length bytes - 256)) (eqb (length manifest) (length bytes - 256 - length ro))
+    and_from (leb (length ro) (length bytes - 256)) (eqb (length manifest) (length bytes - 256 - length ro))
     (le-leb (length ro) (length bytes - 256) le)
     (eq-eqb (length manifest) (length bytes - 256 - length ro) rest)
 
@@ -152,8 +151,8 @@ pub text_plain : (bytes ro manifest : List ℕ) (count : ℕ) → IsPlainText by
 unfolding is_plain
 text_plain bytes ro manifest count is =
     let h = header_for ro manifest count in
-    joins (has_its_bytes bytes h && has_plain_numbers h) (has_whole_regions bytes h)
-    (joins (has_its_bytes bytes h) (has_plain_numbers h) (text_bytes bytes ro manifest count is) (text_numbers ro manifest count))
+    and_from (has_its_bytes bytes h && has_plain_numbers h) (has_whole_regions bytes h)
+    (and_from (has_its_bytes bytes h) (has_plain_numbers h) (text_bytes bytes ro manifest count is) (text_numbers ro manifest count))
     (text_regions bytes ro manifest count is)
 
 pub text_ro : (bytes ro manifest : List ℕ) (count : ℕ) → IsPlainText bytes ro manifest count → take (length ro) (drop 256 bytes) ≡ ro

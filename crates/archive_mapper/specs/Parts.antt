@@ -7,7 +7,7 @@ use Rattle.plain_classes.specs.declared.class.PlainClass.{PlainClass}
 use Rattle.plain_classes.specs.Records.{SpellsClasses, IsRecord, names_of, are_distinct}
 use Rattle.plain_classes.specs.Archives.{has_one_folder}
 
--- Each is a class of the first form with its own name inside, and no name stands twice.
+-- Each has its own name inside, and no name stands twice.
 pub record AreRecords (classes : List PlainClass) : Type 0 where
   pub records : AllByRecursion IsRecord classes
   pub distinct : IsTrue (are_distinct (names_of classes))

@@ -11,7 +11,7 @@ use plain_classes::{PlainClass, are_distinct, are_named, has_one_folder, read_cl
 use sqlite_items::Items;
 use std::alloc::{AllocError, Global};
 
-// Whether the names are distinct, and each is the one inside a class of the first form.
+// Whether the names are distinct, and each is the one inside its class.
 fn are_records(alloc: Global, classes: &[PlainClass]) -> Result<bool, AllocError>
     ensures { IfOk result (λ good. Tells good (spec.AreRecords classes.now)) }
 {
@@ -23,8 +23,7 @@ fn are_records(alloc: Global, classes: &[PlainClass]) -> Result<bool, AllocError
 }
 
 /// The classes that the bytes are, so many of them. `None` exactly where they are no such classes: where the bytes are
-/// cut or something stands behind the last class, a name stands twice, or one isn't the name inside a class file of the
-/// first form.
+/// cut or something stands behind the last class, a name stands twice, or one isn't the name inside its class.
 pub(crate) fn classes_in(
     alloc: Global,
     bytes: &[u8],

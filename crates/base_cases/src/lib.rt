@@ -3,11 +3,17 @@
 #![tactic(auto)]
 
 #[cfg(test)]
+mod array_tests;
+#[cfg(test)]
 mod loader_tests;
+#[cfg(test)]
+mod mutf8_tests;
 #[cfg(test)]
 mod name_table;
 #[cfg(test)]
 mod name_tests;
+#[cfg(test)]
+mod parameter_tests;
 #[cfg(test)]
 mod rows;
 #[cfg(test)]

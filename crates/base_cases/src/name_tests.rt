@@ -2,6 +2,7 @@
 use crate::name_table::ROWS;
 use crate::rows::wrong_rows;
 use crate::test_bytes::{are_words, bytes_of};
+use crate::{array_tests, mutf8_tests, parameter_tests};
 use jsa_names::{
     FieldType, MethodType, field_type, field_types_are_spelled, is_class_name, is_member_name,
     is_method_name, is_mutf8, method_type, method_types_are_spelled, path_of, texts_are_spelled,
@@ -152,7 +153,8 @@ fn say_class(name: &[u8], said: &mut String) -> Result<(), AllocError> {
     say_text(name, said)
 }
 
-fn say_type(
+// The type that was read.
+pub fn say_type(
     alloc: Global,
     read: &Option<FieldType<'_>>,
     said: &mut String,
@@ -238,6 +240,8 @@ fn say_part(
         "field" => say_type(alloc, &field_type(bytes), said),
         "units" => say_units(alloc, bytes, said),
         "path" => say_path(alloc, part, bytes, said),
+        "array" => array_tests::say(alloc, part, bytes, said),
+        "parameters" => parameter_tests::say(alloc, part, bytes, said),
         _ => said.push_str("no such verb"),
     }
 }
@@ -259,7 +263,11 @@ fn say_word(word: Result<&'static str, AllocError>, said: &mut String) -> Result
 pub fn say(alloc: Global, call: &str, said: &mut String) -> Result<(), AllocError> {
     let (verb, words) = first_word(call);
     match verb {
-        "method" | "field" | "units" | "path" => say_parts(alloc, verb, words, said),
+        "method" | "field" | "units" | "path" | "array" | "parameters" => {
+            say_parts(alloc, verb, words, said)
+        }
+        "modified" => mutf8_tests::say_text(alloc, words, said),
+        "unit" => mutf8_tests::say_unit(alloc, words, said),
         _ => say_word(found_word(alloc, verb, words), said),
     }
 }

@@ -4,8 +4,8 @@ use Rattle.std.specs.List.{flat_map, AllByRecursion}
 use Rattle.std.proofs.lemmas.Bool.{eqb-true, ltb-false, le-ltb}
 use Rattle.std.proofs.lemmas.List.{nil_from_length, take_at, drop_at, take-append-drop, length-append, length-take}
 use Rattle.std.proofs.lemmas.List.Concat.{flat_map-cons}
-use Rattle.jsa_base.specs.Reading.{◌>>=◌, IsBytes, Read, u1_at, u2_at, u4_at, bytes_at, pair_at, made, times, counted_at, text_at, long_text_at, all_read}
-use Rattle.jsa_base.specs.Spelling.{u2, u4, text, long_text, counted, FitsText, FitsLongText, FitsCounted}
+use Rattle.jsa_base.specs.Reading.{◌>>=◌, IsBytes, Read, u1_at, u2_at, u4_at, u8_at, bytes_at, pair_at, made, times, counted_at, text_at, long_text_at, all_read}
+use Rattle.jsa_base.specs.Spelling.{u2, u4, u8, text, long_text, counted, Fits4, FitsText, FitsLongText, FitsCounted}
 use Rattle.jsa_base.specs.Codec.{Took, Codec}
 use Rattle.jsa_base.specs.LowFirst.{low_u4, low_u8, low_u4_at, low_u8_at, low_text, low_text_at, low_counted, low_counted_at, FitsLowCounted}
 
@@ -111,6 +111,42 @@ pair_codec {A} {B} f g s t F G c d = record { takes = takes; again = again; byte
   again : (x : A × B) (rest : List ℕ) → F x.0 × G x.1 → pair_at f g ((s x.0 ++ t x.1) ++ rest) ≡ Some (x, rest)
   again x rest fits =
       ap (pair_at f g) (append_assoc (s x.0) (t x.1) rest) ∙ rw (c.again x.0 (t x.1 ++ rest) fits.0, d.again x.1 rest fits.1) refl
+
+-- ---- eight bytes
+
+pub u8_codec : Codec u8_at u8 (λ n. n < 2 ^ 64)
+unfolding u8_at
+u8_codec = record { takes = takes; again = again; bytes = bytes } where
+  halves : Codec (pair_at u4_at u4_at) (λ (p : ℕ × ℕ). u4 p.0 ++ u4 p.1) (λ (p : ℕ × ℕ). Fits4 p.0 × Fits4 p.1)
+  halves = pair_codec u4_at u4_at u4 u4 Fits4 Fits4 u4_codec u4_codec
+
+  takes : (bytes : List ℕ) (x : ℕ) (rest : List ℕ) → IsBytes bytes → made (λ p. 0x1_0000_0000 * p.0 + p.1) (pair_at u4_at u4_at) bytes ≡ Some (x, rest) → Took u8 (λ n. n < 2 ^ 64) bytes x rest
+  takes bytes x rest fits e =
+      let a = bind_some (pair_at u4_at u4_at bytes) (λ p. Some (0x1_0000_0000 * p.0.0 + p.0.1, p.1)) (x, rest) e in
+      let h = a.0.0.0 in
+      let l = a.0.0.1 in
+      let t = halves.takes bytes (h, l) a.0.1 fits a.1 in
+      let fh : h < 2 ^ 32 = t.fits.0 in
+      let fl : l < 2 ^ 32 = t.fits.1 in
+      let p = some_is (0x1_0000_0000 * h + l, a.0.1) (x, rest) a.2 in
+      let i : (0x1_0000_0000 * h + l) / 0x1_0000_0000 ≡ h = omega arith in
+      let j : (0x1_0000_0000 * h + l) % 0x1_0000_0000 ≡ l = omega arith in
+      let top : 0x1_0000_0000 * h + l < 2 ^ 64 = omega arith in
+      let parts : bytes ≡ u8 (0x1_0000_0000 * h + l) ++ a.0.1 = rw (i, j) t.parts in
+      subst (λ (y : ℕ × List ℕ). Took u8 (λ n. n < 2 ^ 64) bytes y.0 y.1) p (record { parts = parts; rest_bytes = t.rest_bytes; fits = top })
+
+  again : (x : ℕ) (rest : List ℕ) → x < 2 ^ 64 → made (λ p. 0x1_0000_0000 * p.0 + p.1) (pair_at u4_at u4_at) (u8 x ++ rest) ≡ Some (x, rest)
+  again x rest fits =
+      let i : x / 0x1_0000_0000 < 2 ^ 32 = omega arith in
+      let j : x % 0x1_0000_0000 < 2 ^ 32 = omega arith in
+      let e : 0x1_0000_0000 * (x / 0x1_0000_0000) + x % 0x1_0000_0000 ≡ x = omega arith in
+      ap (λ (r : Read (ℕ × ℕ)). r >>= λ p. Some (0x1_0000_0000 * p.0.0 + p.0.1, p.1)) (halves.again (x / 0x1_0000_0000, x % 0x1_0000_0000) rest (i, j)) ∙ ap (λ (n : ℕ). Some (n, rest)) e
+
+  bytes : (x : ℕ) → x < 2 ^ 64 → IsBytes (u8 x)
+  bytes x fits =
+      let i : x / 0x1_0000_0000 < 2 ^ 32 = omega arith in
+      let j : x % 0x1_0000_0000 < 2 ^ 32 = omega arith in
+      halves.bytes (x / 0x1_0000_0000, x % 0x1_0000_0000) (i, j)
 
 -- ---- bytes behind their number
 

@@ -1,2 +1,3 @@
 pub mod Bytes
 pub mod Codecs
+pub mod Loops

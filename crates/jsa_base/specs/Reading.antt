@@ -58,6 +58,10 @@ pair_at first second bytes = do
 abbrev pub made : {A B : Type 0} → (A → B) → (List ℕ → Read A) → List ℕ → Read B
 made make read bytes = read bytes >>= λ x. Some (make x.0, x.1)
 
+-- eight bytes: the high four, then the low four
+unfoldable pub u8_at : List ℕ → Read ℕ
+u8_at = made (λ p. 0x1_0000_0000 * p.0 + p.1) (pair_at u4_at u4_at)
+
 -- so many items
 unfoldable pub times : {A : Type 0} → (List ℕ → Read A) → ℕ → List ℕ → Read (List A)
 times item zero bytes = Some ([], bytes)

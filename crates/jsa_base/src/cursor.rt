@@ -1,6 +1,6 @@
 //! A cursor over bytes.
 ghost use Rattle.std.specs.Prelude.{◌≡◌, length};
-ghost use Rattle.jsa_base.specs.Reading.{Reads, u1_at, u2_at, u4_at, bytes_at, IsBytes};
+ghost use Rattle.jsa_base.specs.Reading.{Reads, u1_at, u2_at, u4_at, u8_at, bytes_at, IsBytes};
 ghost use Rattle.jsa_base.specs.LowFirst.{low_u4_at, low_u8_at};
 
 use byteorder::{BigEndian, ByteOrder, LittleEndian};
@@ -89,6 +89,19 @@ impl<'a> Cursor<'a> {
             return None;
         };
         let number = BigEndian::read_u32(self.rest);
+        self.rest = rest;
+        Some(number)
+    }
+
+    /// The number in the next eight bytes.
+    #[tactic(auto, unfolding(crate::specs::Reading::u8_at))]
+    pub fn u8(&mut self) -> Option<u64>
+        ensures { Reads (λ n. n) result self.old self.new (u8_at self.old) }
+    {
+        let [_a, _b, _c, _d, _e, _f, _g, _h, rest @ ..] = self.rest else {
+            return None;
+        };
+        let number = BigEndian::read_u64(self.rest);
         self.rest = rest;
         Some(number)
     }

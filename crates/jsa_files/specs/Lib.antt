@@ -6,3 +6,4 @@ pub mod Plans
 pub mod Sinks
 pub mod StdSink
 pub mod Store
+pub mod Told

@@ -3,5 +3,7 @@ pub mod Forms
 pub mod Runs
 pub mod NameTexts
 pub mod Spelled
+pub mod CharUnits
 pub mod FieldSpelled
 pub mod MethodSpelled
+pub mod ArrayNames

@@ -3,7 +3,7 @@ use Rattle.std.proofs.Common.{◌≡◌, ℕ, zero, suc, ◌+◌, ◌-◌, ◌<�
 use Rattle.std.proofs.lemmas.List.{length-drop}
 use Rattle.std.proofs.lemmas.Bool.{le-leb, lt-leb}
 use Rattle.jsa_names.specs.Binding.{◌>>=◌}
-use Rattle.jsa_names.specs.Types.{JavaType, is_semicolon, is_no_bracket, begins_class, field_type_of, type_length, type_at, more_types, types_at, front_types, slots_of_type, slots_of, few_types}
+use Rattle.jsa_names.specs.Types.{JavaType, Byte, Char, Double, Float, Int, Long, Short, Boolean, Class, Array, is_semicolon, is_no_bracket, begins_class, field_type_of, type_length, type_at, more_types, types_at, front_types, slots_of_type, slots_of, few_types}
 
 abbrev Positive : Option ℕ → Type 0
 Positive None = Unit {0}
@@ -101,6 +101,24 @@ too_many bytes h = rw (lt-leb (slots_of (front_types bytes)) 255 h)
 pub few : (bytes : List ℕ) → slots_of (front_types bytes) ≤ 255 → few_types bytes ≡ Some (front_types bytes, (types_at (length bytes) bytes).1)
 unfolding few_types
 few bytes h = rw (le-leb (slots_of (front_types bytes)) 255 h)
+
+some_slots : (t : JavaType) → 1 ≤ slots_of_type t
+some_slots Byte = omega arith
+some_slots Char = omega arith
+some_slots Double = omega arith
+some_slots Float = omega arith
+some_slots Int = omega arith
+some_slots Long = omega arith
+some_slots Short = omega arith
+some_slots Boolean = omega arith
+some_slots (Class name) = omega arith
+some_slots (Array depth element) = omega arith
+
+-- each type takes a slot at least
+pub no_fewer_slots : (types : List JavaType) → length types ≤ slots_of types
+unfolding slots_of
+no_fewer_slots [] = omega arith
+no_fewer_slots (t ∷ types) = omega (arith, some_slots t, no_fewer_slots types)
 
 -- ---- the type at a place
 

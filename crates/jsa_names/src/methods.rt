@@ -1,9 +1,10 @@
 //! Descriptors of methods (JVMS 4.3.3).
-ghost use Rattle.std.specs.Prelude.{◌≡◌, ◌↔◌, ◌≤◌, true, false, MatchOption, slice_get};
+ghost use Rattle.std.specs.Prelude.{◌≡◌, ◌↔◌, ◌≤◌, true, false, MatchOption, slice_get, length};
 ghost use Rattle.std.specs.Option.{option_map};
 ghost use Rattle.jsa_names.specs.Types.{JavaMethod, field_shown, front_types, few_types, slots_of_type, slots_of, behind_byte, result_of, field_type_of, method_type_of, method_spelling, FitsMethod};
 
 use crate::descriptors::{field_type, first_type};
+use crate::parameters::Parameters;
 use crate::types::FieldType;
 use std::marker::Model;
 
@@ -130,6 +131,16 @@ impl<'a> MethodType<'a> {
         ensures { option_map field_shown result ≡ slice_get self.now.parameters k }
     {
         nth_type(self.parameters, k)
+    }
+
+    /// The types of the parameters, from the first on: at most 255 (JVMS 4.3.3).
+    pub fn params(&self) -> Parameters<'a>
+        ensures types { result ≡ self.now.parameters }
+        ensures few { length self.now.parameters ≤ 255 }
+    {
+        Parameters {
+            rest: self.parameters,
+        }
     }
 
     /// The type of the result. `None` exactly where it is `V`.

@@ -5,7 +5,7 @@ use Rattle.std.proofs.lemmas.Int.{ints}
 use Rattle.std.specs.Prelude.{FitsSigned, replicate}
 use Rattle.std.specs.Int.{w32}
 use Rattle.jsa_base.specs.Reading.{IsBytes}
-use Rattle.jsa_base.specs.Spelling.{u4}
+use Rattle.jsa_base.specs.Spelling.{u4, s4}
 use Rattle.jsa_base.proofs.Codecs.{append-IsBytes}
 use Rattle.jsa_ops.specs.declared.fault.OpFault.{OpFault}
 use Rattle.jsa_ops.specs.declared.fault.OpFault.TheVariants.{BadOpcode, Cut, BadOperand}
@@ -13,7 +13,7 @@ use Rattle.jsa_ops.specs.declared.form.Form.{Form}
 use Rattle.jsa_ops.specs.declared.form.Form.TheVariants as forms
 use Rattle.jsa_ops.specs.Opcodes.{form_of}
 use Rattle.jsa_ops.specs.Instruction.{Instruction}
-use Rattle.jsa_ops.specs.Spelling.{s4, opcode, operands, span}
+use Rattle.jsa_ops.specs.Spelling.{opcode, operands, span}
 use Rattle.jsa_ops.specs.Reading.{instruction_at, placed, decoded}
 use Rattle.jsa_ops.specs.Places.{Begins, NoneBehindWide, NamesNone, TableFront, PairsFront, width, wide_width, CutBehindWide, PassesEnd, IsCut, IsBadOperand, Causes, BehindIsUnread, CutGoesOn}
 use Rattle.jsa_ops.proofs.Forms.{zeros_are_bytes}

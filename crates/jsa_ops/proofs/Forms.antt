@@ -6,11 +6,11 @@ use Rattle.std.proofs.lemmas.List.{length-replicate}
 use Rattle.std.specs.Prelude.{FitsSigned, replicate, ◌==◌}
 use Rattle.std.specs.Int.{w8, w16, w32, cast_unsigned}
 use Rattle.jsa_base.specs.Reading.{IsBytes, u1_at, u2_at, u4_at, pair_at}
-use Rattle.jsa_base.specs.Spelling.{u1, u2, u4}
+use Rattle.jsa_base.specs.Spelling.{u1, u2, u4, s1, s2, s4, Fits1, Fits2, Fits4}
 use Rattle.jsa_ops.specs.declared.form.Form.{Form}
 use Rattle.jsa_ops.specs.declared.form.Form.TheVariants as forms
 use Rattle.jsa_ops.specs.Opcodes.{form_of}
-use Rattle.jsa_ops.specs.Spelling.{s1, s2, s4, padding, index_text, distance_text}
+use Rattle.jsa_ops.specs.Spelling.{padding, index_text, distance_text}
 use Rattle.jsa_ops.specs.Places.{IsPadding}
 use Rattle.jsa_ops.specs.Reading.{s1_at, s2_at, s4_at, range_at, count_at, iinc_at, call_at, dimensions_at}
 use Rattle.jsa_ops.proofs.Parts.{Part, u1_part, u2_part, u4_part, s1_part, s2_part, s4_part, pair_part}
@@ -92,15 +92,6 @@ pub iinc_text : (n : ℕ) (v : ℤ) → n < 256 → FitsSigned w8 v → u1 (n % 
 iinc_text n v small fits = ap (λ (m : ℕ). m ∷ (cast_unsigned w16 v % 256) ∷ []) (low_byte n small) ∙ ap (λ (m : ℕ). n ∷ m ∷ []) (narrow_byte v fits)
 
 -- ---- operands of several parts
-
-abbrev pub Fits1 : ℕ → Type 0
-Fits1 n = n < 256
-
-abbrev pub Fits2 : ℕ → Type 0
-Fits2 n = n < 65536
-
-abbrev pub Fits4 : ℕ → Type 0
-Fits4 n = n < 2 ^ 32
 
 abbrev pub iinc_spelled : ℕ × ℤ → List ℕ
 iinc_spelled p = u1 p.0 ++ s1 p.1

@@ -4,18 +4,18 @@ use Rattle.std.proofs.lemmas.Bool.{leb-true, leb-false}
 use Rattle.std.specs.Prelude.{FitsSigned, int_lt, nat_le}
 use Rattle.std.specs.Int.{w8, w16, w32}
 use Rattle.jsa_base.specs.Reading.{Read, IsBytes, u1_at, u2_at, bytes_at, pair_at}
-use Rattle.jsa_base.specs.Spelling.{u1, u2, u4}
+use Rattle.jsa_base.specs.Spelling.{u1, u2, u4, s1, s2, s4, Fits1, Fits2}
 use Rattle.jsa_base.specs.Codec.{Took}
 use Rattle.jsa_ops.specs.declared.fault.OpFault.TheVariants.{BadOperand}
 use Rattle.jsa_ops.specs.declared.form.Form.{Form}
 use Rattle.jsa_ops.specs.declared.form.Form.TheVariants as forms
 use Rattle.jsa_ops.specs.Opcodes.{form_of, widens}
 use Rattle.jsa_ops.specs.Instruction.{Instruction, Byte, Short, Constant, Local, Iinc, Wide, WideIinc, Branch, Member, Interface, Dynamic, ClassOf, NewArray, MultiArray, TableSwitch, LookupSwitch}
-use Rattle.jsa_ops.specs.Spelling.{s1, s2, s4, Fits, opcode, operands, padding, span, keys, ascend}
+use Rattle.jsa_ops.specs.Spelling.{Fits, opcode, operands, padding, span, keys, ascend}
 use Rattle.jsa_ops.specs.Reading.{then_at, of_part, s1_at, s2_at, s4_at, range_at, count_at, iinc_at, call_at, dimensions_at, widened, wide_at, distances_at, table_switch_at, pairs_at, if_ascending, lookup_switch_at, operands_at, behind, instruction_at}
 use Rattle.jsa_ops.specs.Places.{TableFront, PairsFront, IsCut, wide_width, width, Causes}
 use Rattle.jsa_ops.proofs.Parts.{Part, none_is_few, behind_size, u1_part, u2_part, s1_part, s2_part, s4_part, bytes_part}
-use Rattle.jsa_ops.proofs.Forms.{iinc_is, zeros, zeros_pad, low_byte, near_text, far_index, near_distance, far_distance, iinc_text, Fits1, Fits2, iinc_spelled, IincFits, iinc_part, wide_spelled, WideFits, wide_part, call_spelled, CallFits, call_part, dimensions_spelled, DimensionsFit, dimensions_part, range_part, count_part}
+use Rattle.jsa_ops.proofs.Forms.{iinc_is, zeros, zeros_pad, low_byte, near_text, far_index, near_distance, far_distance, iinc_text, iinc_spelled, IincFits, iinc_part, wide_spelled, WideFits, wide_part, call_spelled, CallFits, call_part, dimensions_spelled, DimensionsFit, dimensions_part, range_part, count_part}
 
 -- ---- operands of one size, behind a front
 

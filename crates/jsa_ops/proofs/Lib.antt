@@ -7,3 +7,5 @@ pub mod Back
 pub mod Placed
 pub mod Ends
 pub mod Written
+pub mod SwitchPlaces
+pub mod KeysGoOn

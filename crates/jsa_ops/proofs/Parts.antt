@@ -6,11 +6,10 @@ use Rattle.std.proofs.lemmas.Int.{to_z-of_z, of_z-to_z, ints}
 use Rattle.std.specs.Prelude.{FitsSigned}
 use Rattle.std.specs.Int.{w8, w16, w32, cast_signed, cast_unsigned}
 use Rattle.jsa_base.specs.Reading.{◌>>=◌, IsBytes, Read, u1_at, u2_at, u4_at, bytes_at, pair_at, made}
-use Rattle.jsa_base.specs.Spelling.{u1, u2, u4}
+use Rattle.jsa_base.specs.Spelling.{u1, u2, u4, s1, s2, s4}
 use Rattle.jsa_base.specs.Codec.{Took, Codec}
 use Rattle.jsa_base.proofs.Codecs.{bind_some, some_is, guard, IsBytes-append, byte_codec, u2_codec, u4_codec, pair_codec}
 use Rattle.jsa_ops.specs.Reading.{s1_at, s2_at, s4_at}
-use Rattle.jsa_ops.specs.Spelling.{s1, s2, s4}
 
 -- ---- sizes
 

@@ -10,7 +10,7 @@ use Rattle.jsa_ops.proofs.Back.{again}
 use Rattle.jsa_ops.proofs.Placed.{exactly}
 
 -- what some bytes decode to fits
-fits_is : (i : Instruction) → IsDecoded i → Fits i
+pub fits_is : (i : Instruction) → IsDecoded i → Fits i
 fits_is i d =
     let h : Answers d.0 d.1 (Ok (i, d.2)) = (exactly d.0 d.1 d.3 (Ok (i, d.2))).0 d.4 in
     h.1.fits

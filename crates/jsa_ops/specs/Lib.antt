@@ -4,3 +4,4 @@ pub mod Spelling
 pub mod Places
 pub mod Reading
 pub mod Unsupported
+pub mod Switches

@@ -2,14 +2,14 @@
 use Rattle.std.specs.Prelude.{◌≡◌, ◌≤◌, ◌<◌, ◌*◌, ◌^◌, ℕ, ℤ, FitsSigned, int_lt, ◌+◌, List, [], ◌∷◌, ◌++◌, length, drop, ◌⊎◌, ◌↔◌, true, false, Option, Some, None, Result, Ok, Err}
 use Rattle.std.specs.Int.{w32}
 use Rattle.jsa_base.specs.Reading.{IsBytes}
-use Rattle.jsa_base.specs.Spelling.{u4}
+use Rattle.jsa_base.specs.Spelling.{u4, s4}
 use Rattle.jsa_ops.specs.declared.fault.OpFault.{OpFault}
 use Rattle.jsa_ops.specs.declared.fault.OpFault.TheVariants.{BadOpcode, Cut, BadOperand}
 use Rattle.jsa_ops.specs.declared.form.Form.{Form}
 use Rattle.jsa_ops.specs.declared.form.Form.TheVariants as forms
 use Rattle.jsa_ops.specs.Opcodes.{form_of, widens}
 use Rattle.jsa_ops.specs.Instruction.{Instruction}
-use Rattle.jsa_ops.specs.Spelling.{Fits, opcode, operands, padding, span, s4, keys, ascend}
+use Rattle.jsa_ops.specs.Spelling.{Fits, opcode, operands, padding, span, keys, ascend}
 use Rattle.jsa_ops.specs.Reading.{decoded}
 
 -- any bytes up to the next multiple of four

@@ -1,5 +1,5 @@
 -- The instruction at a place of the code, read from left to right.
-use Rattle.std.specs.Prelude.{◌≡◌, ℕ, ℤ, ◌-◌, ◌+◌, ◌*◌, ◌^◌, Bool, true, false, List, ◌∷◌, length, drop, Option, Some, None, Result, Ok, Err, if◌then◌else◌, nat_le, int_lt}
+use Rattle.std.specs.Prelude.{◌≡◌, ℕ, ℤ, ◌-◌, ◌*◌, ◌^◌, Bool, true, false, List, length, drop, Option, Some, None, Result, Ok, Err, if◌then◌else◌, nat_le, int_lt}
 use Rattle.std.specs.Int.{w8, w16, w32, cast_signed}
 use Rattle.jsa_base.specs.Reading.{Read, u1_at, u2_at, u4_at, bytes_at, pair_at, made}
 use Rattle.jsa_ops.specs.declared.reading.Named.{Named}
@@ -59,11 +59,6 @@ table_switch_at op pc bytes =
     then_at (bytes_at (padding pc) bytes) (λ pad rest. then_at (range_at rest) (λ r more. distances_at op r.0 r.1.0 r.1.1 more))
 
 -- ---- keys, one after the other
-
--- the key of the first pair, and the pairs after it
-abbrev pub first_key : List ℕ → Option (ℤ × List ℕ)
-first_key (a ∷ b ∷ c ∷ d ∷ e ∷ f ∷ g ∷ h ∷ rest) = Some (cast_signed w32 (16777216 * a + 65536 * b + 256 * c + d), rest)
-first_key _ = None
 
 -- above the key before it, if there is one
 abbrev pub key_above : Option ℤ → ℤ → Bool

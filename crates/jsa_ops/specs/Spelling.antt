@@ -1,22 +1,12 @@
 -- The bytes of each instruction (JVM Specification SE 8, 6.5), the high byte of a number first.
-use Rattle.std.specs.Prelude.{◌≡◌, ℕ, ℤ, ◌+◌, ◌-◌, ◌*◌, ◌/◌, ◌%◌, ◌<◌, ◌^◌, ◌⊎◌, ◌-ℤ◌, List, [], ◌∷◌, ◌++◌, length, replicate, Bool, true, false, ◌&&◌, Option, Some, int_lt, unsigned_abs, FitsSigned}
+use Rattle.std.specs.Prelude.{◌≡◌, ℕ, ℤ, ◌+◌, ◌-◌, ◌*◌, ◌/◌, ◌%◌, ◌<◌, ◌^◌, ◌⊎◌, ◌-ℤ◌, List, [], ◌∷◌, ◌++◌, length, map, replicate, Bool, true, false, ◌&&◌, Option, Some, int_lt, unsigned_abs, FitsSigned}
 use Rattle.std.specs.Int.{w8, w16, w32, cast_signed, cast_unsigned}
 use Rattle.jsa_base.specs.Reading.{IsBytes}
-use Rattle.jsa_base.specs.Spelling.{u1, u2, u4}
+use Rattle.jsa_base.specs.Spelling.{u1, u2, u4, s1, s2, s4}
 use Rattle.jsa_ops.specs.declared.form.Form.{Form}
 use Rattle.jsa_ops.specs.declared.form.Form.TheVariants as forms
 use Rattle.jsa_ops.specs.Opcodes.{form_of}
 use Rattle.jsa_ops.specs.Instruction.{Instruction, Plain, Byte, Short, Constant, Local, Iinc, Wide, WideIinc, Branch, Member, Interface, Dynamic, ClassOf, NewArray, MultiArray, TableSwitch, LookupSwitch}
-
--- signed numbers, in two's complement
-abbrev pub s1 : ℤ → List ℕ
-s1 z = u1 (cast_unsigned w8 z)
-
-abbrev pub s2 : ℤ → List ℕ
-s2 z = u2 (cast_unsigned w16 z)
-
-abbrev pub s4 : ℤ → List ℕ
-s4 z = u4 (cast_unsigned w32 z)
 
 -- The operands of a switch begin at the next multiple of four from the start of the code.
 abbrev pub padding : ℕ → ℕ
@@ -26,10 +16,23 @@ padding pc = 3 - pc % 4
 abbrev pub span : ℤ → ℤ → ℕ
 span low high = unsigned_abs (high -ℤ low) + 1
 
--- the keys of the pairs of a lookupswitch: the first four bytes of each eight
+-- a signed number in four bytes
+abbrev pub word : ℕ → ℕ → ℕ → ℕ → ℤ
+word a b c d = cast_signed w32 (16777216 * a + 65536 * b + 256 * c + d)
+
+-- the distances of a tableswitch, in the order of their keys
+abbrev pub distances : List ℕ → List ℤ
+distances (a ∷ b ∷ c ∷ d ∷ bytes) = word a b c d ∷ distances bytes
+distances _ = []
+
+-- the pairs of a lookupswitch, each a key and its distance
+abbrev pub pairs : List ℕ → List (ℤ × ℤ)
+pairs (a ∷ b ∷ c ∷ d ∷ e ∷ f ∷ g ∷ h ∷ bytes) = (word a b c d, word e f g h) ∷ pairs bytes
+pairs _ = []
+
+-- the keys of the pairs of a lookupswitch
 abbrev pub keys : List ℕ → List ℤ
-keys (a ∷ b ∷ c ∷ d ∷ e ∷ f ∷ g ∷ h ∷ pairs) = cast_signed w32 (16777216 * a + 65536 * b + 256 * c + d) ∷ keys pairs
-keys _ = []
+keys bytes = map (λ p. p.0) (pairs bytes)
 
 -- each is below the next
 abbrev pub ascend : List ℤ → Bool

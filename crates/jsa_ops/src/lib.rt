@@ -1,5 +1,5 @@
 //! The instruction set of the Java virtual machine (JVMS 6.5 and 7): one table of opcodes, what stands at a place of a
-//! code, and how an instruction is written.
+//! code, where a switch goes on, and how an instruction is written.
 #![tactic(auto)]
 
 mod fault;
@@ -9,6 +9,7 @@ mod keys;
 mod laws;
 mod reading;
 mod support;
+mod switches;
 mod table;
 mod writing;
 
@@ -18,4 +19,5 @@ pub use instr::Instr;
 pub use laws::{answers_are_exact, behind_is_unread, cut_goes_on};
 pub use reading::decode;
 pub use support::is_unsupported;
+pub use switches::{distance_at, distance_for, each_key_goes_on, first_distance, first_pair};
 pub use writing::write;

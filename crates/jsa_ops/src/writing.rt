@@ -1,52 +1,17 @@
 //! Writes an instruction.
-ghost use Rattle.std.specs.Prelude.{◌≡◌, ◌++◌, ◌∷◌, ◌/◌, ◌*◌, ◌%◌, ◌^◌, [], length, replicate, true, OnOk};
+ghost use Rattle.std.specs.Prelude.{◌≡◌, ◌++◌, ◌∷◌, ◌/◌, ◌*◌, ◌%◌, [], length, replicate, true, OnOk};
 ghost use Rattle.jsa_ops.specs.Opcodes.{form_of as form_at};
 ghost use Rattle.jsa_ops.specs.Instruction.{shown};
-ghost use Rattle.jsa_base.specs.Spelling.{u1 as u1_text, u2 as u2_text, u4 as u4_text};
-ghost use Rattle.jsa_ops.specs.Spelling.{s1 as s1_text, s2 as s2_text, s4 as s4_text, padding, index_text, distance_text, operands as operands_text, text_of, opcode, is_longer};
+ghost use Rattle.jsa_base.specs.Spelling.{u2 as u2_text, u4 as u4_text, s2 as s2_text, s4 as s4_text};
+ghost use Rattle.jsa_ops.specs.Spelling.{padding, index_text, distance_text, operands as operands_text, text_of, opcode, is_longer};
 ghost use Rattle.jsa_ops.specs.Places.{DecodesAgain};
 ghost use Rattle.std.specs.Int.{w16, cast_unsigned};
 
 use crate::fault::Memory;
 use crate::form::{Form, form_of};
 use crate::instr::Instr;
+use jsa_base::{put_s1, put_s2, put_s4, put_u1, put_u2, put_u4};
 use std::alloc::AllocError;
-
-fn put_u2(out: &mut Vec<u8>, n: u16) -> Result<(), AllocError>
-    ensures { OnOk result (out.new.items ≡ out.old.items ++ u2_text n) }
-{
-    out.extend_from_slice(&[(n / 256) as u8, (n % 256) as u8])
-}
-
-fn put_u4(out: &mut Vec<u8>, n: u32) -> Result<(), AllocError>
-    ensures { OnOk result (out.new.items ≡ out.old.items ++ u4_text n) }
-{
-    out.extend_from_slice(&[
-        (n / 16_777_216) as u8,
-        (n / 65_536 % 256) as u8,
-        (n / 256 % 256) as u8,
-        (n % 256) as u8,
-    ])
-}
-
-fn put_s1(out: &mut Vec<u8>, z: i8) -> Result<(), AllocError>
-    ensures { OnOk result (out.new.items ≡ out.old.items ++ s1_text z) }
-{
-    out.push(z.cast_unsigned())?;
-    Ok(())
-}
-
-fn put_s2(out: &mut Vec<u8>, z: i16) -> Result<(), AllocError>
-    ensures { OnOk result (out.new.items ≡ out.old.items ++ s2_text z) }
-{
-    put_u2(out, z.cast_unsigned())
-}
-
-fn put_s4(out: &mut Vec<u8>, z: i32) -> Result<(), AllocError>
-    ensures { OnOk result (out.new.items ≡ out.old.items ++ s4_text z) }
-{
-    put_u4(out, z.cast_unsigned())
-}
 
 fn put_padding(out: &mut Vec<u8>, pc: u32) -> Result<(), AllocError>
     ensures { OnOk result (out.new.items ≡ out.old.items ++ replicate (padding pc) 0) }
@@ -64,9 +29,8 @@ fn put_call(out: &mut Vec<u8>, index: u16, first: u8, second: u8) -> Result<(), 
     ensures { OnOk result (out.new.items ≡ out.old.items ++ (u2_text index ++ (first ∷ second ∷ []))) }
 {
     put_u2(out, index)?;
-    out.push(first)?;
-    out.push(second)?;
-    Ok(())
+    put_u1(out, first)?;
+    put_u1(out, second)
 }
 
 // A pool index: one byte behind ldc.
@@ -74,7 +38,7 @@ fn put_index(out: &mut Vec<u8>, op: u8, index: u16) -> Result<(), AllocError>
     ensures { OnOk result (out.new.items ≡ out.old.items ++ index_text (form_at op) index) }
 {
     match form_of(op) {
-        Some(Form::NearConstant) => out.extend_from_slice(&[(index % 256) as u8]),
+        Some(Form::NearConstant) => put_u1(out, (index % 256) as u8),
         _ => put_u2(out, index),
     }
 }
@@ -98,7 +62,7 @@ fn put_iinc(out: &mut Vec<u8>, local: u16, amount: i16) -> Result<(), AllocError
 fn put_wide(out: &mut Vec<u8>, code: u8, local: u16) -> Result<(), AllocError>
     ensures { OnOk result (out.new.items ≡ out.old.items ++ code ∷ u2_text local) }
 {
-    out.push(code)?;
+    put_u1(out, code)?;
     put_u2(out, local)
 }
 
@@ -106,8 +70,7 @@ fn put_dimensions(out: &mut Vec<u8>, index: u16, dimensions: u8) -> Result<(), A
     ensures { OnOk result (out.new.items ≡ out.old.items ++ (u2_text index ++ (dimensions ∷ []))) }
 {
     put_u2(out, index)?;
-    out.push(dimensions)?;
-    Ok(())
+    put_u1(out, dimensions)
 }
 
 fn put_distances(out: &mut Vec<u8>, low: i32, high: i32, distances: &[u8]) -> Result<(), AllocError>
@@ -149,12 +112,6 @@ fn put_pairs(out: &mut Vec<u8>, pc: u32, other: i32, pairs: &[u8]) -> Result<(),
     out.extend_from_slice(pairs)
 }
 
-fn put_byte(out: &mut Vec<u8>, byte: u8) -> Result<(), AllocError>
-    ensures { OnOk result (out.new.items ≡ out.old.items ++ byte ∷ []) }
-{
-    out.extend_from_slice(&[byte])
-}
-
 fn put_wide_iinc(out: &mut Vec<u8>, local: u16, amount: i16) -> Result<(), AllocError>
     ensures { OnOk result (out.new.items ≡ out.old.items ++ (0x84 ∷ (u2_text local ++ s2_text amount))) }
 {
@@ -187,14 +144,14 @@ fn put_operands(out: &mut Vec<u8>, pc: u32, instr: &Instr<'_>) -> Result<(), All
         Instr::Byte(_, value) => put_s1(out, value),
         Instr::Short(_, value) => put_s2(out, value),
         Instr::Constant(op, index) => put_index(out, op, index),
-        Instr::Local(_, local) => put_byte(out, (local % 256) as u8),
+        Instr::Local(_, local) => put_u1(out, (local % 256) as u8),
         Instr::Iinc(_, local, amount) => put_iinc(out, local, amount),
         Instr::Wide(_, code, local) => put_wide(out, code, local),
         Instr::WideIinc(_, local, amount) => put_wide_iinc(out, local, amount),
         Instr::Branch(op, distance) => put_distance(out, op, distance),
         Instr::Member(_, index) => put_u2(out, index),
         Instr::ClassOf(_, index) => put_u2(out, index),
-        Instr::NewArray(_, code) => put_byte(out, code),
+        Instr::NewArray(_, code) => put_u1(out, code),
         _ => put_longer(out, pc, instr),
     }
 }

@@ -9,6 +9,8 @@ mod listing;
 #[cfg(test)]
 mod rows;
 #[cfg(test)]
+mod switch_tests;
+#[cfg(test)]
 mod test_bytes;
 #[cfg(test)]
 mod test_code;

@@ -1,7 +1,7 @@
 use Rattle.std.proofs.Common.{◌≡◌, ◌-◌}
 use Rattle.jsa_base.specs.Reading.{times}
 use Rattle.archive_header.specs.ManifestBytes.{folder_at}
-use Rattle.archive_header.proofs.Loop.{with_front}
+use Rattle.jsa_base.proofs.Loops.{with_front}
 use Rattle.archive_header.proofs.manifest_reading.some_folders.Given as goal
 
 abbrev pub invariant-loop : goal.invariant-loop
