@@ -10,7 +10,7 @@ use Rattle.class_tree.specs.declared.tree.CodeTree.{CodeTree}
 use Rattle.class_tree.specs.declared.tree.FieldTree.{FieldTree}
 use Rattle.class_tree.specs.declared.tree.MethodTree.{MethodTree}
 use Rattle.class_tree.specs.ClassFiles.{Member, code_text, FitsAttribute, FitsMember}
-use Rattle.class_tree.specs.Flags.{has}
+use Rattle.class_tree.specs.Flags.{is_static}
 use Rattle.class_tree.specs.Trees.{have_names, content_of, value_of, constant_of, field_of, code_of, code_in, method_of, each}
 use Rattle.class_tree.specs.Encoded.{named, constant_attributes, code_parts, field_member, code_attributes, method_member}
 use Rattle.class_tree.proofs.ClassCodecs.{passed}
@@ -65,16 +65,16 @@ index_again value small some =
 
 no_value : (pool : List PoolEntry) (m : Member) → ValueAgain pool m 0
 unfolding constant_of
-no_value pool m = record { fits = (lit< tt, tt); named = none_have_names pool; content = None; found = either (has m.flags 8); made = refl } where
+no_value pool m = record { fits = (lit< tt, tt); named = none_have_names pool; content = None; found = either (is_static m.flags); made = refl } where
   either : (b : Bool) → cond b (content_of pool constant_name []) (Some None) ≡ Some None
   either true = none_is_found pool constant_name
   either false = refl
 
 -- a constant that was found
-constant_found : (pool : List PoolEntry) (m : Member) (content : List ℕ) → constant_of pool m ≡ Some (Some content) → (has m.flags 8 ≡ true) × (content_of pool constant_name m.attributes ≡ Some (Some content))
+constant_found : (pool : List PoolEntry) (m : Member) (content : List ℕ) → constant_of pool m ≡ Some (Some content) → (is_static m.flags ≡ true) × (content_of pool constant_name m.attributes ≡ Some (Some content))
 unfolding constant_of
-constant_found pool m content h = by (has m.flags 8) refl h where
-  by : (b : Bool) → has m.flags 8 ≡ b → cond b (content_of pool constant_name m.attributes) (Some None) ≡ Some (Some content) → (has m.flags 8 ≡ true) × (content_of pool constant_name m.attributes ≡ Some (Some content))
+constant_found pool m content h = by (is_static m.flags) refl h where
+  by : (b : Bool) → is_static m.flags ≡ b → cond b (content_of pool constant_name m.attributes) (Some None) ≡ Some (Some content) → (is_static m.flags ≡ true) × (content_of pool constant_name m.attributes ≡ Some (Some content))
   by true is k = (is, k)
   by false is k = absurd cc
 
@@ -82,7 +82,7 @@ constant_found pool m content h = by (has m.flags 8) refl h where
 constants_are : (pool : List PoolEntry) (value : ℕ) → eqb value 0 ≡ false → constant_attributes pool value ≡ named pool constant_name (u2 value) ∷ []
 constants_are pool value some = rw some refl
 
-constant_again : (pool : List PoolEntry) (m : Member) (value : ℕ) → has m.flags 8 ≡ true → eqb value 0 ≡ false → Named pool constant_name → constant_of pool (with_constant pool m value) ≡ Some (Some (u2 value))
+constant_again : (pool : List PoolEntry) (m : Member) (value : ℕ) → is_static m.flags ≡ true → eqb value 0 ≡ false → Named pool constant_name → constant_of pool (with_constant pool m value) ≡ Some (Some (u2 value))
 unfolding constant_of
 constant_again pool m value static some n = rw (static, some) (one_is_found pool constant_name (u2 value) n)
 

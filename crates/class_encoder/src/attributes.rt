@@ -7,13 +7,14 @@ ghost use Rattle.class_tree.specs.Encoded as trees;
 
 use crate::attribute_names::AttributeNames;
 use crate::fault::Memory;
-use crate::numbers::{put_count, put_long_text, put_u2};
+use crate::numbers::{put_count, put_long_text};
 use class_tree::{CodeTree, Handler};
+use jsa_base::put_u2;
 use sqlite_items::Items;
-use std::alloc::Global;
+use std::alloc::{AllocError, Global};
 
 /// No attributes.
-pub(crate) fn put_none(out: &mut Vec<u8>) -> Result<(), Memory>
+pub(crate) fn put_none(out: &mut Vec<u8>) -> Result<(), AllocError>
     ensures { OnOk result (out.new.items ≡ out.old.items ++ numbers.counted spec.attribute []) }
 {
     put_u2(out, 0)
@@ -37,16 +38,12 @@ pub(crate) fn put_constant(
     ensures { OnOk result (out.new.items ≡ out.old.items ++ numbers.counted spec.attribute (trees.constant_attributes names.now value)) }
 {
     if value == 0 {
-        return put_none(out);
+        return Ok(put_none(out)?);
     }
-    put_one(
-        out,
-        names.constant_value(),
-        &[(value / 256) as u8, (value % 256) as u8],
-    )
+    put_one(out, names.constant_value(), &value.to_be_bytes())
 }
 
-fn put_handler(out: &mut Vec<u8>, handler: &Handler) -> Result<(), Memory>
+fn put_handler(out: &mut Vec<u8>, handler: &Handler) -> Result<(), AllocError>
     ensures { OnOk result (out.new.items ≡ out.old.items ++ spec.handler handler.now) }
 {
     put_u2(out, handler.start)?;
@@ -55,7 +52,7 @@ fn put_handler(out: &mut Vec<u8>, handler: &Handler) -> Result<(), Memory>
     put_u2(out, handler.catch)
 }
 
-fn put_each_handler(out: &mut Vec<u8>, handlers: &[Handler]) -> Result<(), Memory>
+fn put_each_handler(out: &mut Vec<u8>, handlers: &[Handler]) -> Result<(), AllocError>
     ensures { OnOk result (out.new.items ≡ out.old.items ++ flat_map spec.handler handlers.now) }
 {
     let mut rest = handlers;
@@ -72,7 +69,8 @@ fn put_handlers(out: &mut Vec<u8>, handlers: &[Handler]) -> Result<(), Memory>
     ensures { OnOk result (out.new.items ≡ out.old.items ++ numbers.counted spec.handler handlers.now) }
 {
     put_count(out, handlers.len())?;
-    put_each_handler(out, handlers)
+    put_each_handler(out, handlers)?;
+    Ok(())
 }
 
 // The StackMapTable of a code, where it has one (JVMS 4.7.4).
@@ -84,7 +82,7 @@ fn put_table(
     ensures { OnOk result (out.new.items ≡ out.old.items ++ numbers.counted spec.attribute (trees.table_attributes names.now table.now)) }
 {
     match table {
-        None => put_none(out),
+        None => Ok(put_none(out)?),
         Some(table) => put_one(out, names.stack_map_table(), table.as_slice()),
     }
 }
@@ -118,7 +116,7 @@ pub(crate) fn put_code(
     ensures { OnOk result (out.new.items ≡ out.old.items ++ numbers.counted spec.attribute (trees.code_attributes names.now code.now)) }
 {
     match code {
-        None => put_none(out),
+        None => Ok(put_none(out)?),
         Some(code) => {
             let content = content_of(alloc, names, code)?;
             put_one(out, names.code(), &content)

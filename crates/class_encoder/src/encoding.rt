@@ -8,13 +8,14 @@ use crate::attribute_names::AttributeNames;
 use crate::attributes::put_none;
 use crate::fault::Memory;
 use crate::members::{put_fields, put_methods};
-use crate::numbers::{put_indices, put_u2, put_u4};
+use crate::numbers::put_indices;
 use crate::pool::put_pool;
 use class_tree::ClassTree;
-use std::alloc::Global;
+use jsa_base::{put_u2, put_u4};
+use std::alloc::{AllocError, Global};
 
 // The magic number, and the version (JVMS 4.1).
-fn put_version(out: &mut Vec<u8>, major: u16) -> Result<(), Memory>
+fn put_version(out: &mut Vec<u8>, major: u16) -> Result<(), AllocError>
     ensures { OnOk result (out.new.items ≡ out.old.items ++ spec.version_text 0 major) }
 {
     put_u4(out, 0xCAFE_BABE)?;
@@ -39,7 +40,8 @@ fn put_members(alloc: Global, out: &mut Vec<u8>, tree: &ClassTree) -> Result<(),
     let names = AttributeNames::new(&tree.pool)?;
     put_fields(out, &names, tree.fields.as_slice())?;
     put_methods(alloc, out, &names, tree.methods.as_slice())?;
-    put_none(out)
+    put_none(out)?;
+    Ok(())
 }
 
 /// The class file of a tree: its parts with the attributes that the tree keeps, `ConstantValue`, `Code` and

@@ -8,8 +8,9 @@ ghost use Rattle.class_tree.specs.Encoded as trees;
 use crate::attribute_names::AttributeNames;
 use crate::attributes::{put_code, put_constant};
 use crate::fault::Memory;
-use crate::numbers::{put_count, put_u2};
+use crate::numbers::put_count;
 use class_tree::{FieldTree, MethodTree};
+use jsa_base::put_u2;
 use std::alloc::Global;
 
 fn put_field(out: &mut Vec<u8>, names: &AttributeNames<'_>, field: &FieldTree) -> Result<(), Memory>

@@ -5,17 +5,19 @@ ghost use Rattle.jsa_base.specs.Spelling as numbers;
 ghost use Rattle.class_tree.specs.Entries as spec;
 
 use crate::fault::Memory;
-use crate::numbers::{put_count, put_text, put_u1, put_u2, put_u4, put_u8};
+use crate::numbers::{put_count, put_text};
 use class_tree::{Pool, PoolEntry};
+use jsa_base::{put_u1, put_u2, put_u4, put_u8};
+use std::alloc::AllocError;
 
-fn put_index(out: &mut Vec<u8>, tag: u8, index: u16) -> Result<(), Memory>
+fn put_index(out: &mut Vec<u8>, tag: u8, index: u16) -> Result<(), AllocError>
     ensures { OnOk result (out.new.items ≡ out.old.items ++ (numbers.u1 tag ++ numbers.u2 index)) }
 {
     put_u1(out, tag)?;
     put_u2(out, index)
 }
 
-fn put_two_indices(out: &mut Vec<u8>, tag: u8, first: u16, second: u16) -> Result<(), Memory>
+fn put_two_indices(out: &mut Vec<u8>, tag: u8, first: u16, second: u16) -> Result<(), AllocError>
     ensures { OnOk result (out.new.items ≡ out.old.items ++ (numbers.u1 tag ++ (numbers.u2 first ++ numbers.u2 second))) }
 {
     put_u1(out, tag)?;
@@ -23,7 +25,7 @@ fn put_two_indices(out: &mut Vec<u8>, tag: u8, first: u16, second: u16) -> Resul
     put_u2(out, second)
 }
 
-fn put_handle(out: &mut Vec<u8>, kind: u8, member: u16) -> Result<(), Memory>
+fn put_handle(out: &mut Vec<u8>, kind: u8, member: u16) -> Result<(), AllocError>
     ensures { OnOk result (out.new.items ≡ out.old.items ++ (numbers.u1 15 ++ (numbers.u1 kind ++ numbers.u2 member))) }
 {
     put_u1(out, 15)?;
@@ -31,15 +33,15 @@ fn put_handle(out: &mut Vec<u8>, kind: u8, member: u16) -> Result<(), Memory>
     put_u2(out, member)
 }
 
-fn put_four_bytes(out: &mut Vec<u8>, tag: u8, bits: u32) -> Result<(), Memory>
+fn put_four_bytes(out: &mut Vec<u8>, tag: u8, bits: u32) -> Result<(), AllocError>
     ensures { OnOk result (out.new.items ≡ out.old.items ++ (numbers.u1 tag ++ numbers.u4 bits)) }
 {
     put_u1(out, tag)?;
     put_u4(out, bits)
 }
 
-fn put_eight_bytes(out: &mut Vec<u8>, tag: u8, bits: u64) -> Result<(), Memory>
-    ensures { OnOk result (out.new.items ≡ out.old.items ++ (numbers.u1 tag ++ spec.u8 bits)) }
+fn put_eight_bytes(out: &mut Vec<u8>, tag: u8, bits: u64) -> Result<(), AllocError>
+    ensures { OnOk result (out.new.items ≡ out.old.items ++ (numbers.u1 tag ++ numbers.u8 bits)) }
 {
     put_u1(out, tag)?;
     put_u8(out, bits)
@@ -62,20 +64,22 @@ pub fn put_entry(out: &mut Vec<u8>, entry: &PoolEntry) -> Result<(), Memory>
     match entry {
         PoolEntry::Unusable => Ok(()),
         PoolEntry::Utf8(text) => put_utf8(out, text.as_slice()),
-        PoolEntry::Integer(bits) => put_four_bytes(out, 3, *bits),
-        PoolEntry::Float(bits) => put_four_bytes(out, 4, *bits),
-        PoolEntry::Long(bits) => put_eight_bytes(out, 5, *bits),
-        PoolEntry::Double(bits) => put_eight_bytes(out, 6, *bits),
-        PoolEntry::Class(name) => put_index(out, 7, *name),
-        PoolEntry::Str(string) => put_index(out, 8, *string),
-        PoolEntry::Fieldref(class, member) => put_two_indices(out, 9, *class, *member),
-        PoolEntry::Methodref(class, member) => put_two_indices(out, 10, *class, *member),
-        PoolEntry::InterfaceMethodref(class, member) => put_two_indices(out, 11, *class, *member),
-        PoolEntry::NameAndType(name, desc) => put_two_indices(out, 12, *name, *desc),
-        PoolEntry::MethodHandle(kind, member) => put_handle(out, *kind, *member),
-        PoolEntry::MethodType(desc) => put_index(out, 16, *desc),
+        PoolEntry::Integer(bits) => Ok(put_four_bytes(out, 3, *bits)?),
+        PoolEntry::Float(bits) => Ok(put_four_bytes(out, 4, *bits)?),
+        PoolEntry::Long(bits) => Ok(put_eight_bytes(out, 5, *bits)?),
+        PoolEntry::Double(bits) => Ok(put_eight_bytes(out, 6, *bits)?),
+        PoolEntry::Class(name) => Ok(put_index(out, 7, *name)?),
+        PoolEntry::Str(string) => Ok(put_index(out, 8, *string)?),
+        PoolEntry::Fieldref(class, member) => Ok(put_two_indices(out, 9, *class, *member)?),
+        PoolEntry::Methodref(class, member) => Ok(put_two_indices(out, 10, *class, *member)?),
+        PoolEntry::InterfaceMethodref(class, member) => Ok(put_two_indices(
+            out, 11, *class, *member,
+        )?),
+        PoolEntry::NameAndType(name, desc) => Ok(put_two_indices(out, 12, *name, *desc)?),
+        PoolEntry::MethodHandle(kind, member) => Ok(put_handle(out, *kind, *member)?),
+        PoolEntry::MethodType(desc) => Ok(put_index(out, 16, *desc)?),
         PoolEntry::InvokeDynamic(bootstrap, member) => {
-            put_two_indices(out, 18, *bootstrap, *member)
+            Ok(put_two_indices(out, 18, *bootstrap, *member)?)
         }
     }
 }

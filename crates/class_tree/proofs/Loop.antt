@@ -1,21 +1,14 @@
 -- Reading entries one after the other, as a loop does.
-use Rattle.std.proofs.Common.{◌≡◌, ℕ, suc, ◌-◌, ◌+◌, ◌≤◌, ◌<◌, Bool, true, false, cond, List, [], ◌∷◌, ◌++◌, Some, None, refl, sym, ap, ◌∙◌, append_assoc, arith}
+use Rattle.std.proofs.Common.{◌≡◌, ℕ, suc, ◌-◌, ◌+◌, ◌≤◌, ◌<◌, Bool, true, false, cond, List, [], ◌∷◌, ◌++◌, Some, None, refl, sym, ap, ◌∙◌, arith}
 use Rattle.std.proofs.lemmas.List.{append-nil}
-use Rattle.jsa_base.specs.Reading.{◌>>=◌, Read}
+use Rattle.jsa_base.specs.Reading.{Read}
+use Rattle.jsa_base.proofs.Loops.{with_front, regroup}
 use Rattle.class_tree.specs.declared.fault.FormatFault.{FormatFault}
 use Rattle.class_tree.specs.declared.fault.FormatFault.TheVariants.{NotClass, Version, Memory}
 use Rattle.class_tree.specs.declared.constant_pool.PoolEntry.{PoolEntry}
 use Rattle.class_tree.specs.Outcomes.{Fails}
 use Rattle.class_tree.specs.Entries.{is_wide}
 use Rattle.class_tree.specs.Reading.{slot_at, entries_at}
-
--- what was read before, and what is still read
-abbrev pub with_front : List PoolEntry → Read (List PoolEntry) → Read (List PoolEntry)
-with_front front read = read >>= λ x. Some (front ++ x.0, x.1)
-
-regroup : (front : List PoolEntry) (n : PoolEntry) (read : Read (List PoolEntry)) → with_front front (read >>= λ x. Some (n ∷ x.0, x.1)) ≡ with_front (front ++ n ∷ []) read
-regroup front n (Some x) = ap (λ (ns : List PoolEntry). Some (ns, x.1)) (simp append_assoc)
-regroup front n None = refl
 
 pub goes_on : (front : List PoolEntry) (unusable : Bool) (count i : ℕ) (bytes : List ℕ) (e : PoolEntry) (after : List ℕ) (total : Read (List PoolEntry)) → i < count → slot_at unusable bytes ≡ Some (e, after)
     → with_front front (entries_at unusable (count - i) bytes) ≡ total → with_front (front ++ e ∷ []) (entries_at (is_wide e) (count - (i + 1)) after) ≡ total

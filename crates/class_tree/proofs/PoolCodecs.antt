@@ -1,51 +1,15 @@
 -- The codec of a constant pool: what is read is spelled so, and what is spelled so is read.
-use Rattle.std.proofs.Common.{◌≡◌, ℕ, zero, suc, ◌+◌, ◌*◌, ◌/◌, ◌%◌, ◌^◌, ◌<◌, Bool, true, false, List, [], ◌∷◌, ◌++◌, length, Some, refl, sym, ap, subst, ◌∙◌, append_assoc, arith, lit<}
+use Rattle.std.proofs.Common.{◌≡◌, ℕ, zero, suc, ◌+◌, ◌<◌, Bool, true, false, List, [], ◌∷◌, ◌++◌, length, Some, refl, sym, ap, subst, ◌∙◌, append_assoc, arith, lit<}
 use Rattle.std.specs.List.{flat_map}
 use Rattle.std.proofs.lemmas.List.Concat.{flat_map-cons}
-use Rattle.jsa_base.specs.Reading.{◌>>=◌, Read, IsBytes, u1_at, u2_at, u4_at, pair_at, made, text_at}
-use Rattle.jsa_base.specs.Spelling.{u1, u2, u4, Fits1, Fits2, Fits4}
+use Rattle.jsa_base.specs.Reading.{◌>>=◌, Read, IsBytes, u1_at, u2_at, u4_at, u8_at, pair_at, made, text_at}
+use Rattle.jsa_base.specs.Spelling.{u1, u2, Fits1, Fits2}
 use Rattle.jsa_base.specs.Codec.{Took, Codec}
-use Rattle.jsa_base.proofs.Codecs.{append-IsBytes, leaf, on_tag, bind_some, some_is, byte_codec, u2_codec, u4_codec, text_codec, pair_codec}
+use Rattle.jsa_base.proofs.Codecs.{append-IsBytes, leaf, on_tag, bind_some, some_is, byte_codec, u2_codec, u4_codec, u8_codec, text_codec, pair_codec}
 use Rattle.class_tree.specs.declared.constant_pool.PoolEntry.{PoolEntry}
 use Rattle.class_tree.specs.declared.constant_pool.PoolEntry.TheVariants.{Unusable, Utf8, Integer, Float, Long, Double, Class, Str, Fieldref, Methodref, InterfaceMethodref, NameAndType, MethodHandle, MethodType, InvokeDynamic}
-use Rattle.class_tree.specs.Entries.{u8, entry, pool_text, FitsEntry, is_wide, FitsFrom, FitsPool}
-use Rattle.class_tree.specs.Reading.{u8_at, entry_by, entry_at, slot_at, entries_at, pool_at}
-
--- ---- eight bytes
-
-u8_codec : Codec u8_at u8 (λ n. n < 2 ^ 64)
-unfolding u8_at
-u8_codec = record { takes = takes; again = again; bytes = bytes } where
-  halves : Codec (pair_at u4_at u4_at) (λ (p : ℕ × ℕ). u4 p.0 ++ u4 p.1) (λ (p : ℕ × ℕ). Fits4 p.0 × Fits4 p.1)
-  halves = pair_codec u4_at u4_at u4 u4 Fits4 Fits4 u4_codec u4_codec
-
-  takes : (bytes : List ℕ) (x : ℕ) (rest : List ℕ) → IsBytes bytes → made (λ p. 0x1_0000_0000 * p.0 + p.1) (pair_at u4_at u4_at) bytes ≡ Some (x, rest) → Took u8 (λ n. n < 2 ^ 64) bytes x rest
-  takes bytes x rest fits e =
-      let a = bind_some (pair_at u4_at u4_at bytes) (λ p. Some (0x1_0000_0000 * p.0.0 + p.0.1, p.1)) (x, rest) e in
-      let h = a.0.0.0 in
-      let l = a.0.0.1 in
-      let t = halves.takes bytes (h, l) a.0.1 fits a.1 in
-      let fh : h < 2 ^ 32 = t.fits.0 in
-      let fl : l < 2 ^ 32 = t.fits.1 in
-      let p = some_is (0x1_0000_0000 * h + l, a.0.1) (x, rest) a.2 in
-      let i : (0x1_0000_0000 * h + l) / 0x1_0000_0000 ≡ h = omega arith in
-      let j : (0x1_0000_0000 * h + l) % 0x1_0000_0000 ≡ l = omega arith in
-      let top : 0x1_0000_0000 * h + l < 2 ^ 64 = omega arith in
-      let parts : bytes ≡ u8 (0x1_0000_0000 * h + l) ++ a.0.1 = rw (i, j) t.parts in
-      subst (λ (y : ℕ × List ℕ). Took u8 (λ n. n < 2 ^ 64) bytes y.0 y.1) p (record { parts = parts; rest_bytes = t.rest_bytes; fits = top })
-
-  again : (x : ℕ) (rest : List ℕ) → x < 2 ^ 64 → made (λ p. 0x1_0000_0000 * p.0 + p.1) (pair_at u4_at u4_at) (u8 x ++ rest) ≡ Some (x, rest)
-  again x rest fits =
-      let i : x / 0x1_0000_0000 < 2 ^ 32 = omega arith in
-      let j : x % 0x1_0000_0000 < 2 ^ 32 = omega arith in
-      let e : 0x1_0000_0000 * (x / 0x1_0000_0000) + x % 0x1_0000_0000 ≡ x = omega arith in
-      ap (λ (r : Read (ℕ × ℕ)). r >>= λ p. Some (0x1_0000_0000 * p.0.0 + p.0.1, p.1)) (halves.again (x / 0x1_0000_0000, x % 0x1_0000_0000) rest (i, j)) ∙ ap (λ (n : ℕ). Some (n, rest)) e
-
-  bytes : (x : ℕ) → x < 2 ^ 64 → IsBytes (u8 x)
-  bytes x fits =
-      let i : x / 0x1_0000_0000 < 2 ^ 32 = omega arith in
-      let j : x % 0x1_0000_0000 < 2 ^ 32 = omega arith in
-      halves.bytes (x / 0x1_0000_0000, x % 0x1_0000_0000) (i, j)
+use Rattle.class_tree.specs.Entries.{entry, pool_text, FitsEntry, is_wide, FitsFrom, FitsPool}
+use Rattle.class_tree.specs.Reading.{entry_by, entry_at, slot_at, entries_at, pool_at}
 
 -- ---- an entry
 

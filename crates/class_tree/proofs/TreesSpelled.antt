@@ -1,7 +1,7 @@
 -- What the reading of a class file says of its spelling.
 use Rattle.std.proofs.Common.{◌≡◌, ℕ, ◌<◌, ◌≤◌, Bool, true, false, eqb, ◌&&◌, List, [], ◌++◌, Option, Some, IsFalse, refl, sym, ap, subst, ◌∙◌, arith, lit<}
 use Rattle.std.specs.Prelude.{nat_le}
-use Rattle.std.proofs.lemmas.Bool.{eqb-true, leb-true}
+use Rattle.std.proofs.lemmas.Bool.{eqb-true, leb-true, and_parts}
 use Rattle.std.proofs.lemmas.List.{append-nil}
 use Rattle.jsa_base.specs.Reading.{◌>>=◌, Read, IsBytes, when, all_read}
 use Rattle.jsa_base.specs.Codec.{Codec}
@@ -20,11 +20,6 @@ use Rattle.class_tree.proofs.ClassCodecs.{passed, code_codec, parts_codec, versi
 -- a whole text is read again
 whole_again : {A : Type 0} (read : List ℕ → Read A) (spell : A → List ℕ) (Fits : A → Type 0) → Codec read spell Fits → (x : A) → Fits x → all_read (read (spell x)) ≡ Some x
 whole_again read spell Fits c x fits = ap (λ (b : List ℕ). all_read (read b)) (sym (append-nil (spell x))) ∙ ap all_read (c.again x [] fits)
-
-both : (a b : Bool) → (a && b) ≡ true → (a ≡ true) × (b ≡ true)
-both true true h = (refl, refl)
-both true false h = absurd cc
-both false b h = absurd cc
 
 -- a test that holds goes on
 goes_on : {A : Type 0} (b : Bool) (rest : Option A) → b ≡ true → (when b >>= λ known. rest) ≡ rest
@@ -58,8 +53,8 @@ major_is major p t h =
 major_is_read : (t : ClassTree) → is_well_formed t ≡ true → is_read_version 0 t.major ≡ true
 unfolding is_well_formed is_class_declaration
 major_is_read t h =
-    let a = (both _ _ (both _ _ h).0).0 in
-    (both _ _ (both _ _ (both _ _ (both _ _ (both _ _ a).0).0).0).0).0
+    let a = (and_parts _ _ (and_parts _ _ h).0).0 in
+    (and_parts _ _ (and_parts _ _ (and_parts _ _ (and_parts _ _ (and_parts _ _ a).0).0).0).0).0
 
 -- ---- the tree
 
@@ -111,7 +106,7 @@ tree_takes bytes tree fits h =
     let a = bind_some (version_at bytes) tree_of_version tree h in
     let v = version_codec.takes bytes a.0.0 a.0.1 fits a.1 in
     let g = passed (is_read_version a.0.0.0 a.0.0.1) (tree_behind a.0.0.1 a.0.1) tree a.2 in
-    let zero_is : a.0.0.0 ≡ 0 = eqb-true _ _ (both (eqb a.0.0.0 0) (is_within 50 52 a.0.0.1) g.0).0 in
+    let zero_is : a.0.0.0 ≡ 0 = eqb-true _ _ (and_parts (eqb a.0.0.0 0) (is_within 50 52 a.0.0.1) g.0).0 in
     let m = behind_takes a.0.0.1 a.0.1 tree v.rest_bytes g.1 in
     let same : tree.major ≡ a.0.0.1 = major_is a.0.0.1 m.parts tree m.made in
     record {
@@ -129,7 +124,7 @@ tree_takes bytes tree fits h =
 -- the major version of bytes that spell a tree
 small_major : (n : ℕ) → is_within 50 52 n ≡ true → n < 65536
 small_major n h =
-    let upper : nat_le n 52 ≡ true = (both (nat_le 50 n) (nat_le n 52) h).1 in
+    let upper : nat_le n 52 ≡ true = (and_parts (nat_le 50 n) (nat_le n 52) h).1 in
     let top : n ≤ 52 = leb-true n 52 upper in
     omega arith
 

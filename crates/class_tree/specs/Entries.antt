@@ -1,15 +1,11 @@
 -- How a constant pool is written (JVMS 4.1, 4.4), and which entries have what place in it.
-use Rattle.std.specs.Prelude.{◌≡◌, ℕ, ◌<◌, ◌^◌, ◌/◌, ◌%◌, List, [], ◌∷◌, ◌++◌, length, Bool, true, false}
+use Rattle.std.specs.Prelude.{◌≡◌, ℕ, List, [], ◌∷◌, ◌++◌, length, Bool, true, false}
 use Rattle.std.specs.List.{flat_map}
-use Rattle.jsa_base.specs.Spelling.{u1, u2, u4, text, Fits1, Fits2, Fits4, FitsText}
+use Rattle.jsa_base.specs.Spelling.{u1, u2, u4, u8, text, Fits1, Fits2, Fits4, Fits8, FitsText}
 use Rattle.class_tree.specs.declared.constant_pool.PoolEntry.{PoolEntry}
 use Rattle.class_tree.specs.declared.constant_pool.PoolEntry.TheVariants.{Unusable, Utf8, Integer, Float, Long, Double, Class, Str, Fieldref, Methodref, InterfaceMethodref, NameAndType, MethodHandle, MethodType, InvokeDynamic}
 
 -- ---- how it is written
-
--- eight bytes: the high four, then the low four
-abbrev pub u8 : ℕ → List ℕ
-u8 n = u4 (n / 0x1_0000_0000) ++ u4 (n % 0x1_0000_0000)
 
 -- the tag, and what stands behind it (4.4). At an unusable index nothing is written.
 abbrev pub entry : PoolEntry → List ℕ
@@ -41,8 +37,8 @@ FitsEntry Unusable = ⊥
 FitsEntry (Utf8 bytes) = FitsText bytes
 FitsEntry (Integer bits) = Fits4 bits
 FitsEntry (Float bits) = Fits4 bits
-FitsEntry (Long bits) = bits < 2 ^ 64
-FitsEntry (Double bits) = bits < 2 ^ 64
+FitsEntry (Long bits) = Fits8 bits
+FitsEntry (Double bits) = Fits8 bits
 FitsEntry (Class name) = Fits2 name
 FitsEntry (Str string) = Fits2 string
 FitsEntry (Fieldref class member) = Fits2 class × Fits2 member

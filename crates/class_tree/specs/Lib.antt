@@ -9,6 +9,7 @@ pub mod ClassReading
 pub mod Flags
 pub mod Trees
 pub mod WellFormed
+pub mod ClassNames
 pub mod TextPlaces
 pub mod Spells
 pub mod Encoded

@@ -1,12 +1,9 @@
 -- How a constant pool is read from left to right.
-use Rattle.std.specs.Prelude.{ℕ, zero, suc, ◌+◌, ◌*◌, List, [], ◌∷◌, Bool, true, Some, None, ◌==◌, if◌then◌else◌}
-use Rattle.jsa_base.specs.Reading.{◌>>=◌, Read, u1_at, u2_at, u4_at, pair_at, made, text_at}
+use Rattle.std.specs.Prelude.{ℕ, zero, suc, List, [], ◌∷◌, Bool, true, Some, None, ◌==◌, if◌then◌else◌}
+use Rattle.jsa_base.specs.Reading.{◌>>=◌, Read, u1_at, u2_at, u4_at, u8_at, pair_at, made, text_at}
 use Rattle.class_tree.specs.declared.constant_pool.PoolEntry.{PoolEntry}
 use Rattle.class_tree.specs.declared.constant_pool.PoolEntry.TheVariants.{Unusable, Utf8, Integer, Float, Long, Double, Class, Str, Fieldref, Methodref, InterfaceMethodref, NameAndType, MethodHandle, MethodType, InvokeDynamic}
 use Rattle.class_tree.specs.Entries.{is_wide}
-
-unfoldable pub u8_at : List ℕ → Read ℕ
-u8_at = made (λ p. 0x1_0000_0000 * p.0 + p.1) (pair_at u4_at u4_at)
 
 -- entries of the same parts, by their tags
 

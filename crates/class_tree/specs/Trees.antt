@@ -11,7 +11,7 @@ use Rattle.class_tree.specs.declared.tree.ClassTree.{ClassTree}
 use Rattle.class_tree.specs.ClassFiles.{Attribute, Member, ClassParts}
 use Rattle.class_tree.specs.ClassReading.{code_at}
 use Rattle.class_tree.specs.Links.{has_text, is_utf8}
-use Rattle.class_tree.specs.Flags.{has}
+use Rattle.class_tree.specs.Flags.{is_static}
 
 -- a Utf8 with this text stands at the index
 abbrev pub is_text : List PoolEntry → ℕ → List ℕ → Bool
@@ -45,7 +45,7 @@ value_of (Some content) = all_read (u2_at content) >>= λ index. if index == 0 t
 
 -- ConstantValue is read of a static field alone.
 unfoldable pub constant_of : List PoolEntry → Member → Option (Option (List ℕ))
-constant_of pool m = if has m.flags 0x0008 then content_of pool (codes "ConstantValue") m.attributes else Some None
+constant_of pool m = if is_static m.flags then content_of pool (codes "ConstantValue") m.attributes else Some None
 
 unfoldable pub field_of : List PoolEntry → Member → Option FieldTree
 field_of pool m = do

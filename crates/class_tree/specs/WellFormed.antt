@@ -13,7 +13,7 @@ use Rattle.class_tree.specs.declared.tree.FieldTree.{FieldTree}
 use Rattle.class_tree.specs.declared.tree.MethodTree.{MethodTree}
 use Rattle.class_tree.specs.declared.tree.ClassTree.{ClassTree}
 use Rattle.class_tree.specs.Links.{text_in, holds, has_text, is_class, is_field_type, is_init, returns_void}
-use Rattle.class_tree.specs.Flags.{has, has_none, is_interface, are_class_flags, are_field_flags, are_method_flags, are_init_flags}
+use Rattle.class_tree.specs.Flags.{is_static, is_native, is_interface, is_abstract, are_class_flags, are_field_flags, are_method_flags, are_init_flags}
 
 -- ---- what stands at an index
 
@@ -87,7 +87,7 @@ is_constant_for pool desc _ = false
 
 -- A field that has a constant is static, and the constant suits its descriptor (4.7.2).
 abbrev pub has_its_constant : List PoolEntry → FieldTree → Bool
-has_its_constant pool f = f.value == 0 || (has f.flags 0x0008 && is_constant_for pool f.desc (slice_get pool f.value))
+has_its_constant pool f = f.value == 0 || (is_static f.flags && is_constant_for pool f.desc (slice_get pool f.value))
 
 abbrev pub is_field_declaration : ClassTree → FieldTree → Bool
 is_field_declaration t f =
@@ -118,7 +118,7 @@ parameter_slots None = None
 
 -- `this` takes one slot more in a method that isn't static (4.3.3)
 abbrev pub this_slots : MethodTree → ℕ
-this_slots m = if has m.flags 0x0008 then 0 else 1
+this_slots m = if is_static m.flags then 0 else 1
 
 abbrev pub are_within : Option ℕ → ℕ → ℕ → Bool
 are_within (Some slots) this room = nat_le (slots + this) room
@@ -130,7 +130,7 @@ takes_within pool m room = are_within (parameter_slots (text_of pool m.desc)) (t
 
 -- <clinit> is static and ()V, and its other flags aren't looked at (2.9).
 abbrev pub is_initializer : List PoolEntry → MethodTree → Bool
-is_initializer pool m = has m.flags 0x0008 && has_text pool m.desc is_plain_void
+is_initializer pool m = is_static m.flags && has_text pool m.desc is_plain_void
 
 -- <init> returns V, and isn't in an interface (2.9, 4.6).
 abbrev pub is_constructor : ClassTree → MethodTree → Bool
@@ -155,7 +155,7 @@ is_code pool m c =
 
 -- <clinit>, and a method that is neither native nor abstract, has code, and no other method has (4.7.3).
 abbrev pub has_code : List PoolEntry → MethodTree → Bool
-has_code pool m = has_text pool m.name is_clinit || has_none m.flags 0x0500
+has_code pool m = has_text pool m.name is_clinit || (not (is_native m.flags) && not (is_abstract m.flags))
 
 abbrev pub is_code_of : List PoolEntry → MethodTree → Option CodeTree → Bool
 is_code_of pool m None = not (has_code pool m)

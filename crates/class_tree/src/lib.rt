@@ -20,7 +20,12 @@ mod well_formed;
 pub use constant_pool::{Pool, PoolEntry};
 pub use distinct::has_distinct_parts;
 pub use fault::FormatFault;
-pub use flags::has_flag;
+pub use flags::{
+    ACC_ABSTRACT, ACC_ANNOTATION, ACC_FINAL, ACC_INTERFACE, ACC_NATIVE, ACC_PRIVATE, ACC_PROTECTED,
+    ACC_PUBLIC, ACC_STATIC, ACC_STRICT, ACC_SUPER, ACC_SYNCHRONIZED, ACC_VOLATILE, is_abstract,
+    is_final, is_interface, is_native, is_private, is_protected, is_public, is_static,
+    is_synchronized, is_volatile,
+};
 pub use laws::{
     codes_are_spelled, one_tree, other_versions_have_no_tree, trees_are_spelled,
     versions_are_written,

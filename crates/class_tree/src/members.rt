@@ -5,7 +5,8 @@ ghost use Rattle.class_tree.specs.Flags as flags;
 ghost use Rattle.class_tree.specs.WellFormed as well_formed;
 
 use crate::flags::{
-    are_field_flags, are_init_flags, are_method_flags, has_flag, has_none, is_interface,
+    are_field_flags, are_init_flags, are_method_flags, is_abstract, is_interface, is_native,
+    is_static,
 };
 use crate::tested_pool::TestedPool;
 use crate::tested_tree::TestedTree;
@@ -16,8 +17,7 @@ use crate::tree::{CodeTree, FieldTree, Handler, MethodTree};
 fn has_its_constant(pool: &TestedPool<'_>, field: &FieldTree) -> bool
     ensures { result ≡ well_formed.has_its_constant pool.now field.now }
 {
-    field.value == 0
-        || (has_flag(field.flags, 0x0008) && pool.is_constant_for(field.desc, field.value))
+    field.value == 0 || (is_static(field.flags) && pool.is_constant_for(field.desc, field.value))
 }
 
 pub(crate) fn is_field_declaration(tree: &TestedTree<'_>, field: &FieldTree) -> bool
@@ -35,7 +35,7 @@ pub(crate) fn is_field_declaration(tree: &TestedTree<'_>, field: &FieldTree) -> 
 fn this_slots(method: &MethodTree) -> u8
     ensures { result ≡ well_formed.this_slots method.now }
 {
-    if has_flag(method.flags, 0x0008) { 0 } else { 1 }
+    if is_static(method.flags) { 0 } else { 1 }
 }
 
 fn takes_within(pool: &TestedPool<'_>, method: &MethodTree, room: u16) -> bool
@@ -50,7 +50,7 @@ fn takes_within(pool: &TestedPool<'_>, method: &MethodTree, room: u16) -> bool
 fn is_initializer(pool: &TestedPool<'_>, method: &MethodTree) -> bool
     ensures { result ≡ well_formed.is_initializer pool.now method.now }
 {
-    has_flag(method.flags, 0x0008) && pool.is_plain_void(method.desc)
+    is_static(method.flags) && pool.is_plain_void(method.desc)
 }
 
 fn is_constructor(tree: &TestedTree<'_>, method: &MethodTree) -> bool
@@ -113,7 +113,7 @@ fn is_code(pool: &TestedPool<'_>, method: &MethodTree, code: &CodeTree) -> bool
 fn has_code(pool: &TestedPool<'_>, method: &MethodTree) -> bool
     ensures { result ≡ well_formed.has_code pool.now method.now }
 {
-    pool.is_clinit(method.name) || has_none(method.flags, 0x0500)
+    pool.is_clinit(method.name) || (!is_native(method.flags) && !is_abstract(method.flags))
 }
 
 fn is_code_of(pool: &TestedPool<'_>, method: &MethodTree) -> bool

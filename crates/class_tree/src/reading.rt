@@ -1,8 +1,8 @@
 //! Reads a constant pool from left to right.
 ghost use Rattle.std.specs.Prelude.{◌≡◌, Some, None, MatchOption, true};
-ghost use Rattle.jsa_base.specs.Reading.{u1_at, u2_at, u4_at, bytes_at, made, pair_at, text_at};
+ghost use Rattle.jsa_base.specs.Reading.{u1_at, u2_at, u4_at, u8_at, bytes_at, made, pair_at, text_at};
 ghost use Rattle.class_tree.specs.Outcomes.{Gives};
-ghost use Rattle.class_tree.specs.Reading.{u8_at, number_entry, wide_entry, text_entry, pair_entry, entry_by, entry_at, slot_at, entries_at, pool_at};
+ghost use Rattle.class_tree.specs.Reading.{number_entry, wide_entry, text_entry, pair_entry, entry_by, entry_at, slot_at, entries_at, pool_at};
 ghost use Rattle.class_tree.specs.declared.constant_pool.PoolEntry.TheVariants as pool;
 ghost use Rattle.class_tree.specs.Entries.{is_wide};
 
@@ -11,19 +11,6 @@ use crate::fault::FormatFault;
 use jsa_base::Cursor;
 use sqlite_items::Items;
 use std::alloc::Global;
-
-#[tactic(auto, unfolding(crate::specs::Reading::u8_at))]
-fn u8(cursor: &mut Cursor<'_>) -> Option<u64>
-    ensures { MatchOption result (u8_at cursor.old ≡ None) (λ n. u8_at cursor.old ≡ Some (n, cursor.new)) }
-{
-    let Some(high) = cursor.u4() else {
-        return None;
-    };
-    let Some(low) = cursor.u4() else {
-        return None;
-    };
-    Some(0x1_0000_0000 * u64::from(high) + u64::from(low))
-}
 
 fn bytes(alloc: Global, n: usize, cursor: &mut Cursor<'_>) -> Result<Items<u8>, FormatFault>
     ensures { Gives result cursor.new (bytes_at n cursor.old) }
@@ -74,7 +61,7 @@ fn number(tag: u8, cursor: &mut Cursor<'_>) -> Result<PoolEntry, FormatFault>
 fn wide_number(tag: u8, cursor: &mut Cursor<'_>) -> Result<PoolEntry, FormatFault>
     ensures { Gives result cursor.new (made (wide_entry tag) u8_at cursor.old) }
 {
-    let Some(bits) = u8(cursor) else {
+    let Some(bits) = cursor.u8() else {
         return Err(FormatFault::NotClass);
     };
     if tag == 5 {

@@ -1,4 +1,7 @@
 //! A class file as a tree (JVMS 4.1, 4.5 to 4.7). A name, a descriptor or a class is an index of its constant pool.
+ghost use Rattle.std.specs.Prelude.{◌≡◌};
+ghost use Rattle.class_tree.specs.ClassNames.{own_name};
+
 use crate::constant_pool::Pool;
 use sqlite_items::Items;
 
@@ -18,6 +21,19 @@ pub struct ClassTree {
     pub interfaces: Items<u16>,
     pub fields: Items<FieldTree>,
     pub methods: Items<MethodTree>,
+}
+
+impl ClassTree {
+    /// The name that the class has inside, as `this_class` names it (JVMS 4.1). Empty where no Class with a text stands
+    /// there, which is so in no class file.
+    pub fn own_name(&self) -> &[u8]
+        ensures { result.now ≡ own_name self.now }
+    {
+        match self.pool.class_name(self.this) {
+            Some(name) => name,
+            None => &[],
+        }
+    }
 }
 
 /// A field (JVMS 4.5).

@@ -1,6 +1,6 @@
 use Rattle.std.proofs.Common.{◌≡◌, true, ◌-◌}
 use Rattle.class_tree.specs.Reading.{entries_at}
-use Rattle.class_tree.proofs.Loop.{with_front}
+use Rattle.jsa_base.proofs.Loops.{with_front}
 use Rattle.class_tree.proofs.reading.entries.Given as goal
 
 abbrev pub invariant-loop : goal.invariant-loop
