@@ -10,7 +10,7 @@ use Rattle.loader_rules.specs.declared.loader.Loader.{Loader}
 use Rattle.class_record.specs.Laws.{AreDistinct}
 use Rattle.class_record.specs.declared.bases.Base.{Base}
 use Rattle.class_record.specs.Files.{Name}
-use Rattle.class_record.specs.Trees.{own_name, sup_name}
+use Rattle.class_tree.specs.ClassNames.{own_name, sup_name}
 use Rattle.class_record.specs.Loading.{is_among}
 use Rattle.class_record.specs.Facts.{name_of}
 use Rattle.class_record.specs.Ancestors.{newest}

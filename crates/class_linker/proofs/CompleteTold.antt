@@ -14,7 +14,8 @@ use Rattle.class_record.specs.declared.fault.TheConstants.{MAX_LOADED}
 use Rattle.class_record.specs.declared.fault.ClassesFault.TheVariants.{Limit}
 use Rattle.class_record.specs.Files.{Name, RunFiles, ClassFile, file_of}
 use Rattle.class_record.specs.Readings as readings
-use Rattle.class_record.specs.Trees.{own_name, sup_name, bases_of}
+use Rattle.class_tree.specs.ClassNames.{own_name, sup_name}
+use Rattle.class_record.specs.Trees.{bases_of}
 use Rattle.class_record.specs.Loading.{Completes, FoundClass, Outcome, and_then, found_in, is_among}
 use Rattle.class_record.specs.Facts.{Facts, name_of, names_of}
 use Rattle.class_record.specs.Ancestors.{newest}

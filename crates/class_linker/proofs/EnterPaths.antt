@@ -14,7 +14,8 @@ use Rattle.loader_rules.specs.declared.loader.Loader.{Loader}
 use Rattle.class_record.specs.Laws.{AreDistinct}
 use Rattle.class_record.specs.declared.fault.JavaFault.TheVariants.{NoClassDefFoundError, ClassFormatError, UnsupportedClassVersionError, ClassCircularityError}
 use Rattle.class_record.specs.Files.{Name, sees}
-use Rattle.class_record.specs.Trees.{own_name, sup_name, bases_of, HasShortLists}
+use Rattle.class_tree.specs.ClassNames.{own_name, sup_name}
+use Rattle.class_record.specs.Trees.{bases_of, HasShortLists}
 use Rattle.class_record.specs.Loading.{is_among}
 use Rattle.loaded_classes.specs.Table.{ClassTable}
 use Rattle.class_record.proofs.Orders.{distinct_end}

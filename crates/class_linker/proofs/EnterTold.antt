@@ -10,7 +10,7 @@ use Rattle.class_record.specs.declared.fault.JavaFault.TheVariants.{NoClassDefFo
 use Rattle.class_record.specs.Files.{Name, RunFiles, ClassFile, file_of, sees}
 use Rattle.class_record.specs.Readings as readings
 use Rattle.class_record.specs.Readings.{reading_of}
-use Rattle.class_record.specs.Trees.{own_name}
+use Rattle.class_tree.specs.ClassNames.{own_name}
 use Rattle.class_record.specs.Loading.{Begins, Outcome, fails, begins, is_among, on_found, on_reading, load_under}
 use Rattle.class_record.specs.Worlds.{ClassWorld, world_of_files}
 use Rattle.class_record.specs.Calls.{Progress, Leaves}

@@ -11,7 +11,8 @@ use Rattle.class_record.specs.declared.fault.JavaFault.TheVariants.{NoClassDefFo
 use Rattle.class_record.specs.declared.fault.ClassesFault.{ClassesFault}
 use Rattle.class_record.specs.declared.fault.ClassesFault.TheVariants.{Read, Limit, Memory}
 use Rattle.class_record.specs.Files.{Name, sees}
-use Rattle.class_record.specs.Trees.{own_name, bases_of}
+use Rattle.class_tree.specs.ClassNames.{own_name}
+use Rattle.class_record.specs.Trees.{bases_of}
 use Rattle.class_record.specs.Loading.{is_among}
 use Rattle.class_linker.specs.declared.entering.Entered.{Entered}
 use Rattle.class_linker.specs.declared.entering.Entered.TheVariants.{Present, Begun, Fails}

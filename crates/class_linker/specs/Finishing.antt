@@ -7,7 +7,8 @@ use Rattle.class_record.specs.declared.fault.JavaFault.{JavaFault}
 use Rattle.class_record.specs.declared.fault.ClassesFault.{ClassesFault}
 use Rattle.class_record.specs.declared.bases.Base.{Base}
 use Rattle.class_record.specs.Files.{Name, RunFiles}
-use Rattle.class_record.specs.Trees.{own_name, bases_of, HasShortLists}
+use Rattle.class_tree.specs.ClassNames.{own_name}
+use Rattle.class_record.specs.Trees.{bases_of, HasShortLists}
 use Rattle.class_record.specs.Loading.{is_among}
 use Rattle.class_record.specs.Facts.{Facts}
 use Rattle.class_record.specs.Calls.{Progress}

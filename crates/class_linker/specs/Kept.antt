@@ -5,7 +5,8 @@ use Rattle.std.specs.Str.{bytes_eq}
 use Rattle.class_tree.specs.declared.tree.ClassTree.{ClassTree}
 use Rattle.class_record.specs.declared.bases.Base.{Base}
 use Rattle.class_record.specs.Files.{Name}
-use Rattle.class_record.specs.Trees.{own_name, bases_of, HasShortLists}
+use Rattle.class_tree.specs.ClassNames.{own_name}
+use Rattle.class_record.specs.Trees.{bases_of, HasShortLists}
 use Rattle.class_record.specs.Loading.{is_among}
 use Rattle.class_record.specs.Laws.{AreDistinct}
 use Rattle.class_record.specs.Facts.{Facts, names_of}

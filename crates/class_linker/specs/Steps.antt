@@ -3,7 +3,7 @@ use Rattle.std.specs.Prelude.{◌≡◌, ℕ, ◌≤◌, List, [], ◌∷◌, �
 use Rattle.jsa_files.specs.Store.{Store}
 use Rattle.loader_rules.specs.declared.loader.Loader.{Loader}
 use Rattle.loader_rules.specs.Lists.{FolderLists}
-use Rattle.class_tree.specs.Flags.{has}
+use Rattle.class_tree.specs.Flags.{is_public}
 use Rattle.loader_rules.specs.Packages.{share_package}
 use Rattle.class_record.specs.Trees.{suits}
 use Rattle.class_record.specs.declared.fault.JavaFault.{JavaFault}
@@ -142,7 +142,7 @@ IsSomePath (f ∷ fs) = ⊤
 -- the throwable that a base is refused with, which has these flags and this loader
 abbrev pub fault_of_base : Name → Loader → Base → ℕ → Loader → Option JavaFault
 fault_of_base name loader base flags other =
-    if not (has flags 0x0001 || share_package base.name other name loader) then Some IllegalAccessError
+    if not (is_public flags || share_package base.name other name loader) then Some IllegalAccessError
     else if not (suits base.kind flags) then Some IncompatibleClassChangeError
     else None
 

@@ -1,5 +1,5 @@
 //! The last steps of a load: what a class is based on is tested, and the class is loaded.
-ghost use Rattle.class_tree.specs.Flags.{has};
+ghost use Rattle.class_tree.specs.Flags.{is_public};
 ghost use Rattle.loader_rules.specs.Packages.{share_package};
 ghost use Rattle.class_record.specs.Trees as trees;
 ghost use Rattle.class_record.specs.Loading.{is_among};
@@ -19,7 +19,7 @@ use crate::library::Library;
 use crate::readings::Held;
 use crate::under_way::UnderWay;
 use class_record::{Base, BaseKind, Classes, ClassesFault, JavaFault, MAX_LOADED};
-use class_tree::has_flag;
+use class_tree::{is_interface, is_public};
 use jsa_base::Quantity;
 use loaded_classes::LoadedClasses;
 use loader_rules::{Loader, same_package};
@@ -72,17 +72,17 @@ fn is_accessible(
     flags: u16,
     other_loader: Loader,
 ) -> bool
-    ensures { result ≡ (has flags 0x0001 || share_package other.now other_loader name.now loader) }
+    ensures { result ≡ (is_public flags || share_package other.now other_loader name.now loader) }
 {
-    has_flag(flags, 0x0001) || same_package(other, other_loader, name, loader)
+    is_public(flags) || same_package(other, other_loader, name, loader)
 }
 
 fn suits(kind: BaseKind, flags: u16) -> bool
     ensures { result ≡ trees.suits kind flags }
 {
     match kind {
-        BaseKind::Superclass => !has_flag(flags, 0x0200),
-        BaseKind::Superinterface => has_flag(flags, 0x0200),
+        BaseKind::Superclass => !is_interface(flags),
+        BaseKind::Superinterface => is_interface(flags),
     }
 }
 

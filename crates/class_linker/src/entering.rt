@@ -5,6 +5,7 @@ ghost use Rattle.jsa_files.specs.Store.{Store};
 ghost use Rattle.loader_rules.specs.Outcomes.{FindsSmall};
 ghost use Rattle.class_record.specs.Calls.{CountsRead, NamesLimit};
 ghost use Rattle.class_record.specs.Readings.{reading_of};
+ghost use Rattle.class_tree.specs.ClassNames as class_names;
 ghost use Rattle.class_record.specs.Trees as trees;
 ghost use Rattle.class_record.specs.Loading.{is_among};
 ghost use Rattle.class_record.specs.declared.bases.BaseKind.TheVariants as kinds;
@@ -232,7 +233,7 @@ fn enter_tree(
     requires { is_among name.now (names_under path.old) ≡ false }
     ensures entry { IfOk result (λ answer. entry_of_tree name.now place loader tree.now path.old ≡ entry answer path.new) }
 {
-    if own_name(tree) != name {
+    if tree.own_name() != name {
         return Ok(Entered::Fails(JavaFault::NoClassDefFoundError));
     }
     let bases = bases_of(alloc, tree)?;
@@ -244,15 +245,6 @@ fn enter_tree(
         done: 0,
     })?;
     Ok(Entered::Begun)
-}
-
-fn own_name(tree: &ClassTree) -> &[u8]
-    ensures { result.now ≡ trees.own_name tree.now }
-{
-    match tree.pool.class_name(tree.this) {
-        Some(name) => name,
-        None => &[],
-    }
 }
 
 // The superclass, then the direct superinterfaces in their order.
@@ -270,7 +262,7 @@ fn push_interfaces(
     tree: &ClassTree,
     bases: &mut Items<Base>,
 ) -> Result<(), AllocError>
-    ensures { OnOk result (bases.new ≡ bases.old ++ map (trees.base_of kinds.Superinterface) (trees.interface_names tree.now)) }
+    ensures { OnOk result (bases.new ≡ bases.old ++ map (trees.base_of kinds.Superinterface) (class_names.interface_names tree.now)) }
 {
     for index in tree.interfaces.as_slice() {
         push_base(alloc, tree, BaseKind::Superinterface, *index, bases)?;

@@ -12,7 +12,8 @@ use Rattle.loader_rules.specs.declared.loader.Loader.TheVariants.{App}
 use Rattle.class_record.specs.declared.bases.BaseKind.TheVariants.{Superclass, Superinterface}
 use Rattle.class_record.specs.Files.{Name, RunFiles}
 use Rattle.class_record.specs.Readings.{Reading, tree_in}
-use Rattle.class_record.specs.Trees.{sup_name, interface_names, base_of}
+use Rattle.class_tree.specs.ClassNames.{sup_name, interface_names}
+use Rattle.class_record.specs.Trees.{base_of}
 use Rattle.class_record.specs.Loading.{FoundClass, found_in, class_of, is_among, appended}
 use Rattle.class_record.specs.Ancestors.{supers_by, of_super, up_to_interface, superinterfaces_by, supers_in, superinterfaces_in, sup_in, interfaces_in, supers_up, superinterfaces_up, supers, superinterfaces}
 use Rattle.class_record.specs.Facts.{Facts, names_of}

@@ -9,7 +9,8 @@ use Rattle.class_record.specs.declared.fault.JavaFault.TheVariants.{NoClassDefFo
 use Rattle.class_record.specs.Files.{Name, RunFiles, ClassFile, file_of}
 use Rattle.class_record.specs.Readings.{Reading, IsClass, OtherVersion, NotClass, reading_of}
 use Rattle.class_record.specs.declared.bases.Base.{Base}
-use Rattle.class_record.specs.Trees.{own_name, bases_of}
+use Rattle.class_tree.specs.ClassNames.{own_name}
+use Rattle.class_record.specs.Trees.{bases_of}
 use Rattle.class_record.specs.Loading.{Outcome, after_fault, and_then, completes, fails, is_among, tests, loads_base, loads_bases, on_reading, on_found, load_under, Loaded}
 use Rattle.class_record.specs.Laws.{Reaches}
 use Rattle.class_record.proofs.Room.{left, left_falls, load_level}

@@ -31,7 +31,8 @@ use Rattle.class_record.specs.declared.fault.JavaFault.TheVariants.{NoClassDefFo
 use Rattle.class_record.specs.Files.{Name, RunFiles, ClassFile, file_at, file_of}
 use Rattle.class_record.specs.Readings.{Reading, IsClass, reading_of}
 use Rattle.class_record.specs.declared.bases.BaseKind.TheVariants.{Superclass}
-use Rattle.class_record.specs.Trees.{own_name, base_of, bases_of}
+use Rattle.class_tree.specs.ClassNames.{own_name}
+use Rattle.class_record.specs.Trees.{base_of, bases_of}
 use Rattle.class_record.specs.Loading.{Begins, Outcome, nothing, fails, and_then, begins, completes, is_among, loads_bases, on_reading, on_found, load_under, load_of, tests, Event, order_after, begun_after, Loaded, Loads, BeginsBy}
 use Rattle.class_record.proofs.Room.{load_level}
 

@@ -10,7 +10,7 @@ use Rattle.class_tree.specs.declared.tree.ClassTree.{ClassTree}
 use Rattle.loader_rules.specs.declared.loader.Loader.TheVariants.{App}
 use Rattle.class_record.specs.Files.{Name, RunFiles, ClassFile, file_of}
 use Rattle.class_record.specs.Readings.{Reading, IsClass, OtherVersion, NotClass, reading_of, tree_in}
-use Rattle.class_record.specs.Trees.{own_name}
+use Rattle.class_tree.specs.ClassNames.{own_name}
 use Rattle.class_record.specs.Loading.{FoundClass, found_in, class_of, is_among}
 use Rattle.class_record.specs.Ancestors.{newest, sup_in, interfaces_in}
 use Rattle.class_record.specs.Facts.{Facts, names_of}

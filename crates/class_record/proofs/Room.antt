@@ -14,7 +14,8 @@ use Rattle.loader_rules.specs.Finding.{Place, found}
 use Rattle.class_record.specs.Files.{Name, RunFiles, ClassFile, file_at, file_of}
 use Rattle.class_record.specs.Readings.{Reading, IsClass, OtherVersion, NotClass, reading_of}
 use Rattle.class_record.specs.declared.bases.Base.{Base}
-use Rattle.class_record.specs.Trees.{own_name, bases_of}
+use Rattle.class_tree.specs.ClassNames.{own_name}
+use Rattle.class_record.specs.Trees.{bases_of}
 use Rattle.class_record.specs.Loading.{Outcome, and_then, completes, begins, is_among, tests, loads_base, loads_bases, on_reading, on_found, level, load, load_under}
 use Rattle.class_record.proofs.Finding.{file_there}
 

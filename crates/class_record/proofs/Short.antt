@@ -2,7 +2,7 @@
 use Rattle.std.proofs.Common.{◌≡◌, ℕ, ◌<◌, ◌≤◌, Bool, true, false, ◌&&◌, List, [], ◌∷◌, length, Option, Some, None, refl, sym, ap, subst, ◌∙◌, arith, lit<}
 use Rattle.std.specs.Prelude.{nat_le, suc}
 use Rattle.std.specs.List.{filter_map, list_all, AllByRecursion}
-use Rattle.std.proofs.lemmas.Bool.{leb-true}
+use Rattle.std.proofs.lemmas.Bool.{leb-true, and_parts}
 use Rattle.jsa_base.specs.Reading.{◌>>=◌}
 use Rattle.jsa_base.proofs.Codecs.{bind_some, some_is}
 use Rattle.jsa_names.specs.Texts.{is_within}
@@ -18,12 +18,8 @@ use Rattle.class_tree.specs.Trees.{have_names, each, field_of, method_of, tree_o
 use Rattle.class_tree.specs.WellFormed.{class_name, is_plain_class, is_code, is_code_of, is_method_declaration, is_class_declaration, are_declared, is_well_formed}
 use Rattle.class_tree.specs.Spells.{Spells}
 use Rattle.class_tree.proofs.ClassCodecs.{passed}
-use Rattle.class_record.specs.Trees.{interface_names, bytes_of, HasShortLists}
-
-both : (a b : Bool) → (a && b) ≡ true → (a ≡ true) × (b ≡ true)
-both true true h = (refl, refl)
-both true false h = absurd cc
-both false b h = absurd cc
+use Rattle.class_tree.specs.ClassNames.{interface_names}
+use Rattle.class_record.specs.Trees.{bytes_of, HasShortLists}
 
 -- ---- a tree and its parts
 
@@ -67,24 +63,24 @@ tree_lists major p t h =
 short_code : (pool : List PoolEntry) (m : MethodTree) (c : CodeTree) → is_code pool m c ≡ true → length c.bytes < 65536
 unfolding is_code
 short_code pool m c h =
-    let a = both (is_within 1 65535 (length c.bytes)) _ (both _ _ h).0 in
-    let upper : nat_le (length c.bytes) 65535 ≡ true = (both (nat_le 1 (length c.bytes)) (nat_le (length c.bytes) 65535) a.0).1 in
+    let a = and_parts (is_within 1 65535 (length c.bytes)) _ (and_parts _ _ h).0 in
+    let upper : nat_le (length c.bytes) 65535 ≡ true = (and_parts (nat_le 1 (length c.bytes)) (nat_le (length c.bytes) 65535) a.0).1 in
     let top : length c.bytes ≤ 65535 = leb-true (length c.bytes) 65535 upper in
     omega arith
 
 short_if_any : (pool : List PoolEntry) (m : MethodTree) (o : Option CodeTree) → is_code_of pool m o ≡ true → length (bytes_of o) < 65536
 short_if_any pool m None h = lit< tt
-short_if_any pool m (Some c) h = short_code pool m c (both _ _ h).1
+short_if_any pool m (Some c) h = short_code pool m c (and_parts _ _ h).1
 
 short_codes : (t : ClassTree) (ms : List MethodTree) → list_all (is_method_declaration t) ms ≡ true → AllByRecursion (λ (m : MethodTree). length (bytes_of m.code) < 65536) ms
 short_codes t [] h = tt
 short_codes t (m ∷ ms) h =
-    let a = both (is_method_declaration t m) (list_all (is_method_declaration t) ms) h in
-    (short_if_any t.pool m m.code (both _ (is_code_of t.pool m m.code) a.0).1, short_codes t ms a.1)
+    let a = and_parts (is_method_declaration t m) (list_all (is_method_declaration t) ms) h in
+    (short_if_any t.pool m m.code (and_parts _ (is_code_of t.pool m m.code) a.0).1, short_codes t ms a.1)
 
 methods_declared : (t : ClassTree) → is_well_formed t ≡ true → list_all (is_method_declaration t) t.methods ≡ true
 unfolding is_well_formed are_declared
-methods_declared t h = (both _ _ (both _ _ (both _ _ h).0).1).1
+methods_declared t h = (and_parts _ _ (and_parts _ _ (and_parts _ _ h).0).1).1
 
 -- The lists of a class file are as short as their counts can tell.
 pub spelled_short : (bytes : List ℕ) (t : ClassTree) → Spells bytes t → HasShortLists t
@@ -103,7 +99,7 @@ spelled_short bytes t s =
 named : (pool : List PoolEntry) (indices : List ℕ) → list_all (is_plain_class pool) indices ≡ true → length (filter_map (class_name pool) indices) ≡ length indices
 named pool [] h = refl
 named pool (i ∷ indices) h =
-    let a = both (is_plain_class pool i) (list_all (is_plain_class pool) indices) h in
+    let a = and_parts (is_plain_class pool i) (list_all (is_plain_class pool) indices) h in
     by_case (class_name pool i) refl a.0 (named pool indices a.1)
   where
     by_case : (o : Option (List ℕ)) → class_name pool i ≡ o → holds o is_class_name ≡ true → length (filter_map (class_name pool) indices) ≡ length indices
@@ -113,7 +109,7 @@ named pool (i ∷ indices) h =
 
 interfaces_declared : (t : ClassTree) → is_well_formed t ≡ true → list_all (is_plain_class t.pool) t.interfaces ≡ true
 unfolding is_well_formed is_class_declaration
-interfaces_declared t h = (both _ _ (both _ _ (both _ _ h).0).0).1
+interfaces_declared t h = (and_parts _ _ (and_parts _ _ (and_parts _ _ h).0).0).1
 
 -- Each direct superinterface of a class file has a name.
 pub spelled_bases : (bytes : List ℕ) (t : ClassTree) → Spells bytes t → length (interface_names t) ≡ length t.interfaces

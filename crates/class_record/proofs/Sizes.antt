@@ -6,7 +6,7 @@ use Rattle.std.specs.Str.{bytes_eq}
 use Rattle.std.specs.FinMap.{len}
 use Rattle.std.proofs.lemmas.List.Sums.{sum-map, sum_by-cons}
 use Rattle.class_record.specs.Files.{Name, RunFiles}
-use Rattle.class_record.specs.Trees.{sup_name}
+use Rattle.class_tree.specs.ClassNames.{sup_name}
 use Rattle.class_record.specs.Loading.{FoundClass, is_among}
 use Rattle.class_record.specs.Ancestors.{supers_by, sup_in, supers_up}
 use Rattle.class_record.specs.Facts.{Facts, names_of}

@@ -6,7 +6,7 @@ use Rattle.std.specs.Str.{bytes_eq}
 use Rattle.std.specs.FinMap.{len}
 use Rattle.loader_rules.specs.declared.loader.Loader.TheVariants.{App}
 use Rattle.class_record.specs.Files.{Name, RunFiles}
-use Rattle.class_record.specs.Trees.{sup_name, interface_names}
+use Rattle.class_tree.specs.ClassNames.{sup_name, interface_names}
 use Rattle.class_record.specs.Loading.{FoundClass, class_of, appended}
 use Rattle.class_record.specs.Facts.{Facts}
 

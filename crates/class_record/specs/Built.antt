@@ -4,7 +4,7 @@ use Rattle.std.specs.Prelude.{◌≡◌, ℕ, ◌+◌, ◌<◌, ◌^◌, List, [
 use Rattle.std.specs.List.{AllByRecursion}
 use Rattle.std.specs.Option.{IfSome}
 use Rattle.std.specs.Str.{bytes_eq}
-use Rattle.class_tree.specs.Flags.{has}
+use Rattle.class_tree.specs.Flags as access
 use Rattle.class_record.specs.declared.record.FieldRecord.{FieldRecord}
 use Rattle.class_record.specs.declared.record.MethodRecord.{MethodRecord}
 use Rattle.class_record.specs.Files.{Name}
@@ -21,7 +21,7 @@ size_of_super older None = 0
 size_of_super older (Some sup) = size_in older sup
 
 abbrev pub is_static : FieldRecord → Bool
-is_static f = has f.flags 0x0008
+is_static f = access.is_static f.flags
 
 -- the slots of fields, where the next instance field gets the one and the next static field the other
 abbrev pub slots_from : ℕ → ℕ → List FieldRecord → List ℕ

@@ -8,7 +8,8 @@ use Rattle.loader_rules.specs.declared.loader.Loader.TheVariants.{App}
 use Rattle.class_record.specs.Files.{Name, RunFiles, ClassFile, file_of}
 use Rattle.class_record.specs.Readings.{IsClass, reading_of}
 use Rattle.class_record.specs.declared.bases.Base.{Base}
-use Rattle.class_record.specs.Trees.{own_name, bases_of}
+use Rattle.class_tree.specs.ClassNames.{own_name}
+use Rattle.class_record.specs.Trees.{bases_of}
 use Rattle.class_record.specs.Loading.{Event, class_of, is_among, load_under, level, loads_bases, Loaded, order_after, begun_after}
 use Rattle.class_record.specs.Linking.{links, verification, link_of}
 use Rattle.class_record.specs.Ancestors.{supers_in, superinterfaces_in, supers, superinterfaces}

@@ -12,3 +12,6 @@ pub mod Built
 pub mod Calls
 pub mod Orders
 pub mod Laws
+pub mod Required
+pub mod Starting
+pub mod ClassList

@@ -7,13 +7,14 @@ use Rattle.std.specs.FinMap.{len}
 use Rattle.loader_rules.specs.declared.loader.Loader.{Loader}
 use Rattle.loader_rules.specs.Packages.{share_package}
 use Rattle.class_tree.specs.declared.tree.ClassTree.{ClassTree}
-use Rattle.class_tree.specs.Flags.{has}
+use Rattle.class_tree.specs.Flags.{is_public}
 use Rattle.class_record.specs.declared.fault.JavaFault.{JavaFault}
 use Rattle.class_record.specs.declared.fault.JavaFault.TheVariants.{NoClassDefFoundError, ClassFormatError, UnsupportedClassVersionError, ClassCircularityError, IncompatibleClassChangeError, IllegalAccessError}
 use Rattle.class_record.specs.Files.{Name, RunFiles, ClassFile, file_of}
 use Rattle.class_record.specs.Readings.{Reading, IsClass, OtherVersion, NotClass, reading_of, tree_in}
 use Rattle.class_record.specs.declared.bases.Base.{Base}
-use Rattle.class_record.specs.Trees.{own_name, bases_of, suits}
+use Rattle.class_tree.specs.ClassNames.{own_name}
+use Rattle.class_record.specs.Trees.{bases_of, suits}
 
 -- ---- what a load or a link does
 
@@ -78,7 +79,7 @@ is_class_that test (Some c) = test c
 
 -- A class is accessible to all where it is public, and else to those of its own run-time package (5.4.4).
 abbrev pub is_accessible : Name → Loader → Name → FoundClass → Bool
-is_accessible name loader other c = has c.tree.flags 0x0001 || share_package other c.file.loader name loader
+is_accessible name loader other c = is_public c.tree.flags || share_package other c.file.loader name loader
 
 -- what is tested of a loaded class that the class `name`, which `loader` defines, is based on: access, then its kind
 abbrev pub tests : RunFiles → Name → Loader → Base → Outcome

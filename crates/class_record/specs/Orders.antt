@@ -9,7 +9,8 @@ use Rattle.class_tree.specs.declared.tree.ClassTree.{ClassTree}
 use Rattle.class_record.specs.Files.{Name, RunFiles, ClassFile, file_of}
 use Rattle.class_record.specs.Readings.{IsClass, reading_of}
 use Rattle.class_record.specs.declared.bases.Base.{Base}
-use Rattle.class_record.specs.Trees.{own_name, bases_of}
+use Rattle.class_tree.specs.ClassNames.{own_name}
+use Rattle.class_record.specs.Trees.{bases_of}
 use Rattle.class_record.specs.Loading.{Outcome, is_among, tests, load_under, begun_in, completed_in}
 
 -- A class is based on this one, which is loaded, is the same from the loader that defines the class, and passes the tests.

@@ -9,7 +9,7 @@ use Rattle.class_tree.specs.declared.tree.FieldTree.{FieldTree}
 use Rattle.class_tree.specs.declared.tree.MethodTree.{MethodTree}
 use Rattle.class_tree.specs.declared.tree.CodeTree.{CodeTree}
 use Rattle.class_tree.specs.WellFormed.{text_of}
-use Rattle.class_tree.specs.Flags.{has}
+use Rattle.class_tree.specs.Flags as access
 use Rattle.loader_rules.specs.declared.loader.Loader.{Loader}
 use Rattle.loader_rules.specs.declared.loader.Loader.TheVariants.{App}
 use Rattle.class_record.specs.declared.record.PoolName.{PoolName}
@@ -18,7 +18,7 @@ use Rattle.class_record.specs.declared.record.FieldRecord.{FieldRecord}
 use Rattle.class_record.specs.declared.record.MethodRecord.{MethodRecord}
 use Rattle.class_record.specs.declared.record.CodeRecord.{CodeRecord}
 use Rattle.class_record.specs.Files.{Name, RunFiles}
-use Rattle.class_record.specs.Trees.{or_empty, own_name, sup_name, interface_names}
+use Rattle.class_tree.specs.ClassNames.{or_empty, own_name, sup_name, interface_names}
 use Rattle.class_record.specs.Loading.{FoundClass, class_of}
 use Rattle.class_record.specs.Ancestors.{supers}
 use Rattle.class_record.specs.Facts.{Facts}
@@ -51,7 +51,7 @@ pool_name pool (entries.InvokeDynamic bootstrap member) = names.InvokeDynamic bo
 
 -- ACC_STATIC (4.5)
 abbrev pub is_static : FieldTree → Bool
-is_static f = has f.flags 0x0008
+is_static f = access.is_static f.flags
 
 -- a field (4.5) with its slot and its ConstantValue (4.7.2)
 abbrev pub field_record : List PoolEntry → ℕ → FieldTree → FieldRecord

@@ -1,33 +1,16 @@
--- What a class file says of its class by names (JVMS 4.1).
+-- What a class is based on, and how long the lists of a class file are (JVMS 4.1).
 use Rattle.std.specs.Prelude.{ℕ, ◌<◌, ◌^◌, List, [], length, Bool, not, map, Option, Some, None, ◌++◌}
-use Rattle.std.specs.List.{filter_map, AllByRecursion}
+use Rattle.std.specs.List.{AllByRecursion}
 use Rattle.std.specs.Option.{option_to_list}
 use Rattle.class_tree.specs.declared.tree.ClassTree.{ClassTree}
 use Rattle.class_tree.specs.declared.tree.CodeTree.{CodeTree}
 use Rattle.class_tree.specs.declared.tree.MethodTree.{MethodTree}
-use Rattle.class_tree.specs.WellFormed.{class_name}
+use Rattle.class_tree.specs.ClassNames.{sup_name, interface_names}
 use Rattle.class_tree.specs.Flags.{is_interface}
 use Rattle.class_record.specs.declared.bases.Base.{Base}
 use Rattle.class_record.specs.declared.bases.BaseKind.{BaseKind}
 use Rattle.class_record.specs.declared.bases.BaseKind.TheVariants.{Superclass, Superinterface}
 use Rattle.class_record.specs.Files.{Name}
-
--- the text, or the empty one; in a class file these texts are there (4.1, 4.4 to 4.6)
-abbrev pub or_empty : Option (List ℕ) → List ℕ
-or_empty (Some text) = text
-or_empty None = []
-
--- the name that the class has inside: this_class (4.1)
-abbrev pub own_name : ClassTree → Name
-own_name t = or_empty (class_name t.pool t.this)
-
--- the name of its direct superclass, super_class, which java/lang/Object alone doesn't have (4.1)
-abbrev pub sup_name : ClassTree → Option Name
-sup_name t = class_name t.pool t.sup
-
--- the names of its direct superinterfaces, in the order of the array interfaces (4.1)
-abbrev pub interface_names : ClassTree → List Name
-interface_names t = filter_map (class_name t.pool) t.interfaces
 
 -- a class or an interface that another one is based on
 abbrev pub base_of : BaseKind → Name → Base

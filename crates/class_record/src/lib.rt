@@ -8,6 +8,7 @@ mod facts;
 mod fault;
 mod laws;
 mod record;
+mod start;
 
 pub use bases::{Base, BaseKind, sees};
 pub use classes::Classes;
@@ -18,5 +19,6 @@ pub use laws::{
     readings_are_spelled,
 };
 pub use record::{
-    Ask, ClassRecord, CodeRecord, FieldRecord, ItableRecord, MethodRecord, Named, PoolName, Tables,
+    ClassRecord, CodeRecord, FieldRecord, ItableRecord, MethodRecord, Named, PoolName, Tables,
 };
+pub use start::Start;

@@ -2,14 +2,7 @@
 use class_tree::Handler;
 use loader_rules::Loader;
 use sqlite_items::Items;
-
-/// Whether one class is assignable to another: what the verifier had to assume of classes that it didn't look at (JVMS
-/// 4.10.1.2). Both are internal names.
-#[derive(Debug, Drop)]
-pub struct Ask {
-    pub from: Items<u8>,
-    pub to: Items<u8>,
-}
+use verify_rules::Ask;
 
 /// A class as it is laid out, with names in place of the classes, fields and methods that it refers to.
 #[derive(Drop)]

@@ -6,7 +6,7 @@ ghost use Rattle.class_tree.specs.WellFormed.{class_name};
 ghost use Rattle.class_record.specs.declared.fault.TheConstants.{MAX_LOADED};
 ghost use Rattle.class_record.specs.Facts.{names_of};
 ghost use Rattle.class_record.specs.Loading.{is_among};
-ghost use Rattle.class_record.specs.Trees as trees;
+ghost use Rattle.class_tree.specs.ClassNames as class_names;
 ghost use Rattle.class_record.specs.Trees.{HasShortLists, bases_of};
 ghost use Rattle.loaded_classes.specs.Slots.{IsShortCode};
 
@@ -93,23 +93,13 @@ fn has_short_lists(tree: &ClassTree) -> bool
         && are_short(tree.methods.as_slice())
 }
 
-// The name that the class has inside.
-fn own_name(tree: &ClassTree) -> &[u8]
-    ensures { result.now ≡ trees.own_name tree.now }
-{
-    match tree.pool.class_name(tree.this) {
-        Some(name) => name,
-        None => &[],
-    }
-}
-
 fn may_push(classes: &LoadedClasses, tree: &ClassTree) -> bool
-    ensures fresh { IsTrue result → is_among (trees.own_name tree.now) (names_of classes.now.classes) ≡ false }
+    ensures fresh { IsTrue result → is_among (class_names.own_name tree.now) (names_of classes.now.classes) ≡ false }
     ensures bases { IsTrue result → AllByRecursion (λ base. is_among base.name (names_of classes.now.classes) ≡ true) (bases_of tree.now) }
     ensures short { IsTrue result → HasShortLists tree.now }
     ensures few { IsTrue result → length classes.now.classes < MAX_LOADED }
 {
-    classes.find_loaded(own_name(tree)).is_none()
+    classes.find_loaded(tree.own_name()).is_none()
         && has_loaded_bases(classes, tree)
         && has_short_lists(tree)
         && classes.count() < MAX_LOADED

@@ -15,7 +15,8 @@ use Rattle.class_record.specs.declared.bases.BaseKind.TheVariants.{Superclass, S
 use Rattle.class_record.specs.declared.record.FieldRecord.{FieldRecord}
 use Rattle.class_record.specs.Files.{Name}
 use Rattle.class_record.specs.declared.bases.Base.{Base}
-use Rattle.class_record.specs.Trees.{HasShortLists, base_of, bases_of, own_name, sup_name, interface_names, bytes_of}
+use Rattle.class_record.specs.Trees.{HasShortLists, base_of, bases_of, bytes_of}
+use Rattle.class_tree.specs.ClassNames.{own_name, sup_name, interface_names}
 use Rattle.class_record.specs.Facts.{Facts, names_of, code_of}
 use Rattle.class_record.specs.Loading.{is_among}
 use Rattle.class_record.specs.Built as built

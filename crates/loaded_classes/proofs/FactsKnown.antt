@@ -6,7 +6,7 @@ use Rattle.std.proofs.lemmas.Option.{slice_get-map}
 use Rattle.class_tree.specs.declared.constant_pool.PoolEntry.{PoolEntry}
 use Rattle.class_tree.specs.declared.tree.FieldTree.{FieldTree}
 use Rattle.class_record.specs.declared.record.FieldRecord.{FieldRecord}
-use Rattle.class_record.specs.Trees.{own_name, sup_name, interface_names}
+use Rattle.class_tree.specs.ClassNames.{own_name, sup_name, interface_names}
 use Rattle.class_record.specs.Facts as known
 use Rattle.class_record.specs.Facts.{Facts, with_class}
 use Rattle.class_record.specs.Records.{facts_of, field_records, is_static, method_record, pool_name}

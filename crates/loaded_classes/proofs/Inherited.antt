@@ -7,7 +7,7 @@ use Rattle.class_record.specs.Loading.{appended}
 use Rattle.class_record.specs.Ancestors as ancestors
 use Rattle.class_record.specs.Ancestors.{up_to_interface, superinterfaces_by, superinterfaces_in, newest}
 use Rattle.class_record.specs.Built.{size_in, size_of_super}
-use Rattle.class_record.specs.Trees.{own_name}
+use Rattle.class_tree.specs.ClassNames.{own_name}
 use Rattle.loaded_classes.specs.declared.held.HeldClass.{HeldClass}
 use Rattle.loaded_classes.specs.Held.{IsId, AreIds, IsHeld, facts_list}
 use Rattle.loaded_classes.specs.Bases.{ids_appended, superinterfaces_at, superinterfaces_held, of_super, interface_appended, interfaces_appended, superinterface_ids, size_at, size_held}

@@ -3,7 +3,7 @@ use Rattle.std.proofs.Common.{◌≡◌, ℕ, zero, suc, ◌+◌, ◌<◌, ◌�
 use Rattle.std.specs.Str.{bytes_eq}
 use Rattle.std.proofs.lemmas.List.{length-map, map-append}
 use Rattle.class_record.specs.Files.{Name}
-use Rattle.class_record.specs.Trees.{own_name, sup_name, interface_names}
+use Rattle.class_tree.specs.ClassNames.{own_name, sup_name, interface_names}
 use Rattle.class_record.specs.Facts.{Facts, name_of, names_of}
 use Rattle.class_record.specs.Loading.{is_among}
 use Rattle.class_record.specs.Ancestors.{newest, superinterfaces_in, superinterfaces_by}

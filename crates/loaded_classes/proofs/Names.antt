@@ -7,7 +7,7 @@ use Rattle.class_record.specs.Files.{Name}
 use Rattle.class_record.specs.Loading.{is_among}
 use Rattle.class_record.specs.Facts.{Facts, names_of, name_of}
 use Rattle.class_record.specs.Records.{facts_of}
-use Rattle.class_record.specs.Trees.{own_name}
+use Rattle.class_tree.specs.ClassNames.{own_name}
 use Rattle.loaded_classes.specs.declared.held.HeldClass.{HeldClass}
 use Rattle.loaded_classes.specs.Held.{facts_in, facts_list}
 

@@ -12,7 +12,8 @@ use Rattle.loader_rules.specs.declared.loader.Loader.{Loader}
 use Rattle.class_record.specs.declared.fault.TheConstants.{MAX_LOADED}
 use Rattle.class_record.specs.Files.{Name}
 use Rattle.class_record.specs.declared.bases.Base.{Base}
-use Rattle.class_record.specs.Trees.{HasShortLists, bases_of, own_name, sup_name, interface_names}
+use Rattle.class_record.specs.Trees.{HasShortLists, bases_of}
+use Rattle.class_tree.specs.ClassNames.{own_name, sup_name, interface_names}
 use Rattle.class_record.specs.Facts.{Facts, name_of, names_of}
 use Rattle.class_record.specs.Loading.{is_among}
 use Rattle.class_record.specs.Ancestors.{newest, superinterfaces_in, superinterfaces_by}

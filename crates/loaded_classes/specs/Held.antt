@@ -10,7 +10,8 @@ use Rattle.class_record.specs.declared.fault.JavaFault.{JavaFault}
 use Rattle.class_record.specs.declared.fault.JavaFault.TheVariants.{NoClassDefFoundError}
 use Rattle.class_record.specs.declared.facts.ClassId.{ClassId}
 use Rattle.class_record.specs.Files.{Name, sees}
-use Rattle.class_record.specs.Trees.{HasShortLists, own_name, sup_name, interface_names}
+use Rattle.class_record.specs.Trees.{HasShortLists}
+use Rattle.class_tree.specs.ClassNames.{own_name, sup_name, interface_names}
 use Rattle.class_record.specs.Facts.{Facts, names_of}
 use Rattle.class_record.specs.Ancestors.{newest, superinterfaces_in}
 use Rattle.class_record.specs.Built.{AreBuilt, size_in}

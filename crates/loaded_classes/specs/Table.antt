@@ -2,7 +2,7 @@
 use Rattle.std.specs.Prelude.{ℕ, List, [], ◌∷◌, ◌++◌, length, replicate, Bool, true, false, Option, Some, None, slice_get, slice_set}
 use Rattle.loader_rules.specs.declared.loader.Loader.{Loader}
 use Rattle.class_tree.specs.declared.tree.ClassTree.{ClassTree}
-use Rattle.class_record.specs.Trees.{sup_name}
+use Rattle.class_tree.specs.ClassNames.{sup_name}
 use Rattle.class_record.specs.Facts.{Facts}
 use Rattle.class_record.specs.Worlds.{World}
 use Rattle.class_record.specs.Ancestors.{newest}

@@ -5,7 +5,7 @@ ghost use Rattle.class_record.specs.Facts.{Facts, names_of};
 ghost use Rattle.class_record.specs.Calls.{IsClassBefore};
 ghost use Rattle.loaded_classes.specs.Held.{IsId, AreIds};
 
-use crate::reading::{field_at, handler_at, method_at, own_name, pool_at};
+use crate::reading::{field_at, handler_at, method_at, pool_at};
 use crate::table::LoadedClasses;
 use class_record::{
     ClassId, Classes, ClassesFault, FieldFact, JavaFault, MethodFact, PoolFact, Source,
@@ -73,7 +73,7 @@ impl Classes for LoadedClasses {
     }
 
     fn name(&self, id: ClassId) -> &[u8] {
-        own_name(&self.class(id).tree)
+        self.class(id).tree.own_name()
     }
 
     fn flags(&self, id: ClassId) -> u16 {

@@ -4,7 +4,7 @@ ghost use Rattle.class_tree.specs.declared.tree.FieldTree.{FieldTree};
 ghost use Rattle.class_record.specs.Records.{instance_fields, static_fields};
 ghost use Rattle.loaded_classes.specs.Slots.{field_slots};
 
-use class_tree::{FieldTree, has_flag};
+use class_tree::{FieldTree, is_static};
 use sqlite_items::Items;
 use std::alloc::{AllocError, Global};
 
@@ -23,7 +23,7 @@ fn take_slot(next: &mut NextSlots, field: &FieldTree) -> u32
     ensures instance { (more : List FieldTree) → next.old.instance + instance_fields (field.now ∷ more) ≡ next.new.instance + instance_fields more }
     ensures fixed { (more : List FieldTree) → next.old.fixed + static_fields (field.now ∷ more) ≡ next.new.fixed + static_fields more }
 {
-    if has_flag(field.flags, 0x0008) {
+    if is_static(field.flags) {
         let slot = next.fixed;
         next.fixed += 1;
         return slot;

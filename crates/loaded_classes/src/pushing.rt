@@ -4,8 +4,9 @@ ghost use Rattle.std.specs.List.{AllByRecursion};
 ghost use Rattle.std.specs.Str.{bytes_eq};
 ghost use Rattle.std.specs.Vec.{vec_len, vec_capacity};
 ghost use Rattle.class_record.specs.declared.fault.TheConstants.{MAX_LOADED};
-ghost use Rattle.class_record.specs.Trees as trees;
-ghost use Rattle.class_record.specs.Trees.{HasShortLists, own_name, bases_of};
+ghost use Rattle.class_tree.specs.ClassNames as class_names;
+ghost use Rattle.class_record.specs.Trees.{HasShortLists, bases_of};
+ghost use Rattle.class_tree.specs.ClassNames.{own_name};
 ghost use Rattle.class_record.specs.Facts.{names_of};
 ghost use Rattle.class_record.specs.Loading.{is_among};
 ghost use Rattle.loaded_classes.specs.Table.{added};
@@ -17,7 +18,6 @@ ghost use Rattle.loaded_classes.specs.Pushing.{IsLookedUp};
 use crate::bases::{base_id, base_ids, size_of_super, superinterfaces};
 use crate::held::HeldClass;
 use crate::layout::{FieldLayout, layout_of};
-use crate::reading::own_name;
 use crate::table::LoadedClasses;
 use class_record::ClassId;
 use class_tree::ClassTree;
@@ -153,15 +153,15 @@ fn prepare(
     id: u32,
 ) -> Result<(LookedUp, Items<u64>), AllocError>
     requires room { size_at classes.now (base_id places.old tree.now.pool tree.now.sup) + length tree.now.fields < 2 ^ 32 }
-    requires fresh { known_at places.old (trees.own_name tree.now) ≡ None }
+    requires fresh { known_at places.old (class_names.own_name tree.now) ≡ None }
     ensures up { IfOk result (λ made. IsLookedUp classes.now places.old tree.now made.0) }
     ensures words { IfOk result (λ made. made.1 ≡ replicate (length tree.now.pool) 0) }
-    ensures ok { OnOk result ((other : List ℕ) → known_at places.new other ≡ (if bytes_eq (trees.own_name tree.now) other then Some id else known_at places.old other)) }
+    ensures ok { OnOk result ((other : List ℕ) → known_at places.new other ≡ (if bytes_eq (class_names.own_name tree.now) other then Some id else known_at places.old other)) }
     ensures err { OnErr result ((other : List ℕ) → known_at places.new other ≡ known_at places.old other) }
 {
     let words = new_words(alloc, tree.pool.entries().len())?;
     let up = look_up(alloc, classes, places, tree)?;
-    note(alloc, places, own_name(tree), id)?;
+    note(alloc, places, tree.own_name(), id)?;
     Ok((up, words))
 }
 

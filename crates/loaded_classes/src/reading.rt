@@ -6,7 +6,6 @@ ghost use Rattle.class_tree.specs.declared.constant_pool.PoolEntry.{PoolEntry};
 ghost use Rattle.class_record.specs.Facts.{pool_shown, field_shown, method_shown, method_told, entry_or_unusable, handlers_in};
 ghost use Rattle.class_record.specs.Records as records;
 ghost use Rattle.class_record.specs.Records.{pool_name, method_record};
-ghost use Rattle.class_record.specs.Trees as trees;
 ghost use Rattle.class_record.specs.Trees.{bytes_of};
 ghost use Rattle.loaded_classes.specs.Slots.{with_slot, rows_of, IsShortCode};
 
@@ -20,16 +19,6 @@ fn text_at(pool: &Pool, index: u16) -> &[u8]
 {
     match pool.text(index) {
         Some(text) => text,
-        None => &[],
-    }
-}
-
-// The name that the class has inside.
-pub(crate) fn own_name(tree: &ClassTree) -> &[u8]
-    ensures { result.now ≡ trees.own_name tree.now }
-{
-    match tree.pool.class_name(tree.this) {
-        Some(name) => name,
         None => &[],
     }
 }

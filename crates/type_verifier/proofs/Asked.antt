@@ -19,13 +19,13 @@
 use Rattle.std.proofs.Common.{◌≡◌, ℕ, ◌+◌, ◌<◌, ◌≤◌, Bool, true, false, List, [], ◌++◌, length, drop, get_or, refl, sym, ap, ◌∙◌, append_assoc, subst, ◌-◌, suc, arith}
 use Rattle.std.proofs.lemmas.List.{append-nil, drop_all, drop_more}
 use Rattle.std.specs.Prelude.{Result, Ok, Err, IsErrAnd}
-use Rattle.class_record.specs.declared.record.Ask.{Ask}
-use Rattle.type_verifier.specs.declared.cause.Cause.{Cause}
-use Rattle.type_verifier.specs.declared.cause.Stop.{Stop}
-use Rattle.type_verifier.specs.declared.cause.Stop.TheVariants.{Fault, Memory}
-use Rattle.type_verifier.specs.Causes.{Typed, Does, where_true}
-use Rattle.type_verifier.specs.Causes as causes
-use Rattle.type_verifier.specs.Asking.{Asking, Check, Did, Checked, gives, refused, silent, follows, fine, test, and_then, each, ◌>>=◌}
+use Rattle.verify_rules.specs.declared.ask.Ask.{Ask}
+use Rattle.verify_rules.specs.declared.cause.Cause.{Cause}
+use Rattle.verify_rules.specs.declared.cause.Stop.{Stop}
+use Rattle.verify_rules.specs.declared.cause.Stop.TheVariants.{Fault, Memory}
+use Rattle.verify_rules.specs.Causes.{Typed, Does, where_true}
+use Rattle.verify_rules.specs.Causes as causes
+use Rattle.verify_rules.specs.Asking.{Asking, Check, Did, Checked, gives, refused, silent, follows, fine, test, and_then, each, ◌>>=◌}
 
 -- ---- what asks nothing
 

@@ -3,14 +3,14 @@ use Rattle.std.proofs.Common.{◌≡◌, ℕ, suc, zero, ◌+◌, ◌-◌, ◌<�
 use Rattle.std.specs.Prelude.{slice_get, nat_le, MatchOption, Result, Ok, Err}
 use Rattle.std.proofs.lemmas.Bool.{le-leb, lt-leb}
 use Rattle.std.proofs.lemmas.List.{drop_all, drop_more}
-use Rattle.class_record.specs.declared.record.Ask.{Ask}
-use Rattle.verify_types.specs.declared.types.VType.{VType}
-use Rattle.type_verifier.specs.declared.cause.Cause.TheVariants.{Operands}
-use Rattle.type_verifier.specs.declared.cause.Stop.{Stop}
-use Rattle.type_verifier.specs.declared.cause.Stop.TheVariants.{Fault}
-use Rattle.type_verifier.specs.Asking.{Asking, Check, Did, Checked, gives, refused, fine, and_then}
-use Rattle.type_verifier.specs.Assign.{assign}
-use Rattle.type_verifier.specs.Calls.{all_assign, operands, took}
+use Rattle.verify_rules.specs.declared.ask.Ask.{Ask}
+use Rattle.verify_rules.specs.declared.types.VType.{VType}
+use Rattle.verify_rules.specs.declared.cause.Cause.TheVariants.{Operands}
+use Rattle.verify_rules.specs.declared.cause.Stop.{Stop}
+use Rattle.verify_rules.specs.declared.cause.Stop.TheVariants.{Fault}
+use Rattle.verify_rules.specs.Asking.{Asking, Check, Did, Checked, gives, refused, fine, and_then}
+use Rattle.verify_rules.specs.Assign.{assign}
+use Rattle.verify_rules.specs.Calls.{all_assign, operands, took}
 use Rattle.type_verifier.proofs.Asked.{Leads, leads_here, leads_on, leads_stop, leads_to, did_gives, did_refused, checked_then, checked_stop}
 
 -- the item at a place comes before those above it

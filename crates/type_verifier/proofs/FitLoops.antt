@@ -3,12 +3,12 @@ use Rattle.std.proofs.Common.{◌≡◌, ℕ, zero, suc, ◌+◌, ◌<◌, ◌�
 use Rattle.std.proofs.lemmas.List.{drop_more}
 use Rattle.std.proofs.lemmas.Option.{slice_get_within, slice_get-get_or}
 use Rattle.std.specs.Prelude.{Result, Ok, Err}
-use Rattle.class_record.specs.declared.record.Ask.{Ask}
-use Rattle.verify_types.specs.declared.types.VType.{VType}
-use Rattle.type_verifier.specs.declared.cause.Stop.{Stop}
-use Rattle.type_verifier.specs.Asking.{Check, Checked, and_then}
-use Rattle.type_verifier.specs.Assign.{assign}
-use Rattle.type_verifier.specs.Fits.{operands_fit}
+use Rattle.verify_rules.specs.declared.ask.Ask.{Ask}
+use Rattle.verify_rules.specs.declared.types.VType.{VType}
+use Rattle.verify_rules.specs.declared.cause.Stop.{Stop}
+use Rattle.verify_rules.specs.Asking.{Check, Checked, and_then}
+use Rattle.verify_rules.specs.Assign.{assign}
+use Rattle.verify_rules.specs.Fits.{operands_fit}
 use Rattle.type_verifier.proofs.Asked.{checked_then, checked_stop}
 
 -- what is left of a list from an item on

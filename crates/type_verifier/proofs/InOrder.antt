@@ -8,20 +8,20 @@ use Rattle.class_tree.specs.declared.tree.ClassTree.{ClassTree}
 use Rattle.class_tree.specs.declared.tree.MethodTree.{MethodTree}
 use Rattle.class_tree.specs.declared.tree.CodeTree.{CodeTree}
 use Rattle.loader_rules.specs.declared.loader.Loader.{Loader}
-use Rattle.class_record.specs.declared.record.Ask.{Ask}
-use Rattle.class_record.specs.declared.record.ClassRecord.{ClassRecord}
-use Rattle.verify_types.specs.declared.types.Frame.{Frame}
-use Rattle.verify_types.specs.Places.{Placed, instructions}
-use Rattle.type_verifier.specs.declared.checking.Checked.{Checked}
-use Rattle.type_verifier.specs.declared.checking.Place.{Place}
-use Rattle.type_verifier.specs.declared.cause.Cause.TheVariants.{End}
-use Rattle.type_verifier.specs.Causes.{Typed}
-use Rattle.type_verifier.specs.Asking.{Asking, Check, follows, gives, refused, each, and_then}
-use Rattle.type_verifier.specs.Env.{Env}
-use Rattle.type_verifier.specs.Rows.{row}
-use Rattle.type_verifier.specs.Flow.{Frames, declared_at, falls_through, flows, is_declared, fits_if_declared, target_fits, target_distances, handled, leads, step}
-use Rattle.type_verifier.specs.Methods.{Found, first_frame, entered, walked, ended, frame_or, up_to, before_walk, typed_in, typed_from, method_found}
-use Rattle.type_verifier.specs.Classes.{place, found_in, before_methods, methods_checked, class_checked}
+use Rattle.verify_rules.specs.declared.ask.Ask.{Ask}
+use Rattle.verify_rules.specs.Superclasses.{Superclass}
+use Rattle.verify_rules.specs.declared.types.Frame.{Frame}
+use Rattle.verify_rules.specs.Places.{Placed, instructions}
+use Rattle.verify_rules.specs.declared.checking.Checked.{Checked}
+use Rattle.verify_rules.specs.declared.checking.Place.{Place}
+use Rattle.verify_rules.specs.declared.cause.Cause.TheVariants.{End}
+use Rattle.verify_rules.specs.Causes.{Typed}
+use Rattle.verify_rules.specs.Asking.{Asking, Check, follows, gives, refused, each, and_then}
+use Rattle.verify_rules.specs.Env.{Env}
+use Rattle.verify_rules.specs.Rows.{row}
+use Rattle.verify_rules.specs.Flow.{Frames, declared_at, falls_through, flows, is_declared, fits_if_declared, target_fits, target_distances, handled, leads, step}
+use Rattle.verify_rules.specs.Methods.{Found, first_frame, entered, walked, ended, frame_or, up_to, before_walk, typed_in, typed_from, method_found}
+use Rattle.verify_rules.specs.Classes.{place, found_in, before_methods, methods_checked, class_checked}
 use Rattle.type_verifier.specs.Laws.{stations, station, stepped, step_in, frame_before, given, is_given, through_refusal, asks_of, first_refused, or_else, Concatenates, entry, steps, walk_fault, MethodInOrder, IsRefused, has_no_fault, through_fault, fault_in, first_fault, method_findings, ClassInOrder, frame_at, has_no_code}
 use Rattle.type_verifier.specs.Laws as laws
 
@@ -115,7 +115,7 @@ class_fault_at : (k : ℕ) (asks : List Ask) (o : Option ℕ) (rest : Checked) (
 class_fault_at k asks None rest left h = h
 class_fault_at k asks (Some pc) rest left h = refl
 
-module _ (t : ClassTree) (loader : Loader) (supers : List ClassRecord) where
+module _ (t : ClassTree) (loader : Loader) (supers : List Superclass) where
   class_asks : (k : ℕ) (methods : List MethodTree) → (methods_checked t loader supers k methods).asks ≡ flat_map (λ (f : Found). f.asks) (through_fault (map (λ (m : MethodTree). found_in t loader supers m m.code) methods))
   unfolding methods_checked
   class_asks k [] = refl

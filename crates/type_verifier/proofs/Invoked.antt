@@ -2,17 +2,17 @@
 use Rattle.std.proofs.Common.{◌≡◌, ℕ, List, [], ◌∷◌, length, drop, Option, sym, ap, ◌∙◌, subst}
 use Rattle.std.specs.Prelude.{slice_get, Result, Ok}
 use Rattle.jsa_names.specs.Types.{JavaMethod}
-use Rattle.class_record.specs.declared.record.Ask.{Ask}
-use Rattle.verify_types.specs.declared.types.VType.{VType}
-use Rattle.verify_types.specs.declared.types.VType.TheVariants.{Object}
-use Rattle.type_verifier.specs.declared.cause.Stop.{Stop}
-use Rattle.type_verifier.specs.Asking.{Did, Checked, and_then}
-use Rattle.type_verifier.specs.Env.{Env, vtypes_of}
-use Rattle.type_verifier.specs.Members.{Member, method_test}
-use Rattle.type_verifier.specs.Calls.{took, put_result, object_called}
+use Rattle.verify_rules.specs.declared.ask.Ask.{Ask}
+use Rattle.verify_rules.specs.declared.types.VType.{VType}
+use Rattle.verify_rules.specs.declared.types.VType.TheVariants.{Object}
+use Rattle.verify_rules.specs.declared.cause.Stop.{Stop}
+use Rattle.verify_rules.specs.Asking.{Did, Checked, and_then}
+use Rattle.verify_rules.specs.Env.{Env, vtypes_of}
+use Rattle.verify_rules.specs.Members.{NamedMember, method_test}
+use Rattle.verify_rules.specs.Calls.{took, put_result, object_called}
 use Rattle.type_verifier.proofs.Asked.{did_then, did_nothing, checked_then}
 
-module _ (e : Env) (class : List ℕ) (m : Member) (t : JavaMethod) (stack wanted rest : List VType) (k n room : ℕ) (object : Option VType)
+module _ (e : Env) (class : List ℕ) (m : NamedMember) (t : JavaMethod) (stack wanted rest : List VType) (k n room : ℕ) (object : Option VType)
     (types : wanted ≡ Object class ∷ vtypes_of t.parameters) (place : k ≡ length t.parameters) (count : n ≡ length wanted) (at : object ≡ slice_get stack k) (left : rest ≡ drop n stack) (within : room ≡ e.code.stack) where
   pub called : {U V W : Type 0} (old mid new : List Ask) (u : U) (v : V) (r : Result W Stop) (x : List VType) → Did (took wanted stack) old mid (Ok u) (drop (length wanted) stack) → Checked (method_test e m object) mid new (Ok v)
       → Did (put_result room t.result rest) [] [] r x → Did (object_called e class m t stack) old new r x

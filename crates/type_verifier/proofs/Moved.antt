@@ -2,15 +2,15 @@
 use Rattle.std.proofs.Common.{◌≡◌, ℕ, ◌+◌, Bool, true, false, cond, List, [], ◌∷◌, ◌++◌, refl, sym, ◌∙◌, ap, subst, append_assoc, arith}
 use Rattle.std.specs.Prelude.{Result, Ok, Err, nat_le}
 use Rattle.std.proofs.lemmas.Bool.{leb-false, lt-leb}
-use Rattle.verify_types.specs.declared.types.VType.{VType}
-use Rattle.verify_types.specs.Types.{size, units}
-use Rattle.verify_types.proofs.Tops.{units-append}
-use Rattle.type_verifier.specs.declared.cause.Cause.TheVariants.{Room}
-use Rattle.type_verifier.specs.declared.cause.Stop.{Stop}
-use Rattle.type_verifier.specs.Causes.{Typed, Does, ◌>>=◌}
-use Rattle.type_verifier.specs.Letters.{push}
-use Rattle.type_verifier.specs.StackForms.{put}
-use Rattle.type_verifier.specs.StackSteps.{push_both, put_both}
+use Rattle.verify_rules.specs.declared.types.VType.{VType}
+use Rattle.verify_rules.specs.Types.{size, units}
+use Rattle.verify_rules.proofs.Tops.{units-append}
+use Rattle.verify_rules.specs.declared.cause.Cause.TheVariants.{Room}
+use Rattle.verify_rules.specs.declared.cause.Stop.{Stop}
+use Rattle.verify_rules.specs.Causes.{Typed, Does, ◌>>=◌}
+use Rattle.verify_rules.specs.Letters.{push}
+use Rattle.verify_rules.specs.StackForms.{put}
+use Rattle.verify_rules.specs.StackSteps.{push_both, put_both}
 
 -- ---- putting
 

@@ -10,8 +10,8 @@ use Rattle.jsa_ops.specs.Instruction.{Instruction, Byte, Short, Constant, Local,
 use Rattle.jsa_ops.specs.Spelling.{padding, span, keys, ascend}
 use Rattle.jsa_ops.specs.Reading.{placed, then_at, of_part, behind, operands_at, instruction_at, wide_at, widened, table_switch_at, distances_at, lookup_switch_at, pairs_at, if_ascending, s1_at, s2_at, s4_at, range_at, count_at, iinc_at, call_at, dimensions_at}
 use Rattle.class_tree.specs.WellFormed.{class_name}
-use Rattle.type_verifier.specs.Env.{Env, pool_of}
-use Rattle.type_verifier.specs.Calls.{class_in}
+use Rattle.verify_rules.specs.Env.{Env, pool_of}
+use Rattle.verify_rules.specs.Calls.{class_in}
 
 module _ (e : Env) (size : ℕ) where
   abbrev class_of : Result (Instruction × List ℕ) OpFault → Option (List ℕ)

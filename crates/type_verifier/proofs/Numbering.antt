@@ -4,9 +4,9 @@ use Rattle.std.specs.Prelude.{slice_get, slice_set, nat_eq}
 use Rattle.std.proofs.lemmas.Bool.Decides.{eqb_tells}
 use Rattle.std.proofs.lemmas.Option.{slice_get_within, slice_get-get_or}
 use Rattle.std.proofs.lemmas.List.{drop_all}
-use Rattle.verify_types.specs.declared.types.Frame.{Frame}
-use Rattle.type_verifier.specs.Flow.{Frames, declared_at}
-use Rattle.type_verifier.specs.Walking.{Numbers, Puts, SameNumbers, number_at, frame_number}
+use Rattle.verify_rules.specs.declared.types.Frame.{Frame}
+use Rattle.verify_rules.specs.Flow.{Frames, declared_at}
+use Rattle.verify_rules.specs.Walking.{Numbers, Puts, SameNumbers, number_at, frame_number}
 
 -- ---- places
 

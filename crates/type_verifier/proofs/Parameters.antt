@@ -3,8 +3,8 @@ use Rattle.std.proofs.Common.{◌≡◌, ℕ, suc, zero, ◌+◌, ◌≤◌, Lis
 use Rattle.std.specs.Prelude.{slice_get, map}
 use Rattle.std.proofs.lemmas.List.{append-nil, length-map}
 use Rattle.jsa_names.specs.Types.{JavaType, slots_of, slots_of_type, Byte, Char, Double, Float, Int, Long, Short, Boolean, Class, Array}
-use Rattle.verify_types.specs.declared.types.VType.{VType}
-use Rattle.type_verifier.specs.Env.{vtype_of}
+use Rattle.verify_rules.specs.declared.types.VType.{VType}
+use Rattle.verify_rules.specs.Env.{vtype_of}
 
 -- each takes a slot at least
 slot : (t : JavaType) → 1 ≤ slots_of_type t

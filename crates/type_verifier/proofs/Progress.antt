@@ -5,10 +5,10 @@ use Rattle.std.specs.Prelude.{slice_get}
 use Rattle.class_tree.specs.declared.tree.ClassTree.{ClassTree}
 use Rattle.class_tree.specs.declared.tree.MethodTree.{MethodTree}
 use Rattle.loader_rules.specs.declared.loader.Loader.{Loader}
-use Rattle.class_record.specs.declared.record.Ask.{Ask}
-use Rattle.class_record.specs.declared.record.ClassRecord.{ClassRecord}
-use Rattle.type_verifier.specs.declared.checking.Checked.{Checked}
-use Rattle.type_verifier.specs.Classes.{place, before_methods, found_before, found_in, methods_checked}
+use Rattle.verify_rules.specs.declared.ask.Ask.{Ask}
+use Rattle.verify_rules.specs.Superclasses.{Superclass}
+use Rattle.verify_rules.specs.declared.checking.Checked.{Checked}
+use Rattle.verify_rules.specs.Classes.{place, before_methods, found_before, found_in, methods_checked}
 use Rattle.type_verifier.proofs.Numbering.{drop_item}
 
 -- What is found of the rest, behind the questions asked by now, is what is found of the whole.
@@ -28,7 +28,7 @@ module _ (whole : Checked) (k : ℕ) (rest : Checked) (mid new : List Ask) where
   stop_at asks None pc a f e h = absurd cc
   stop_at asks (Some q) pc a f e h = let s : pc ≡ q = cc in (e ∙ sym a, rw s (sym f))
 
-module _ (t : ClassTree) (loader : Loader) (supers : List ClassRecord) (methods : List MethodTree) (k : ℕ) (m : MethodTree) (is : slice_get methods k ≡ Some m) (whole : Checked) (mid new : List Ask) where
+module _ (t : ClassTree) (loader : Loader) (supers : List Superclass) (methods : List MethodTree) (k : ℕ) (m : MethodTree) (is : slice_get methods k ≡ Some m) (whole : Checked) (mid new : List Ask) where
   here : methods_checked t loader supers k (drop k methods) ≡ found_before k (found_in t loader supers m m.code) (methods_checked t loader supers (k + 1) (drop (k + 1) methods))
   unfolding methods_checked
   here = rw (drop_item methods k m is) refl
@@ -42,7 +42,7 @@ module _ (t : ClassTree) (loader : Loader) (supers : List ClassRecord) (methods 
       let s = stop_at whole k (methods_checked t loader supers (k + 1) (drop (k + 1) methods)) mid new (found_in t loader supers m m.code).asks (found_in t loader supers m m.code).fault pc (rw here at c.asks) (rw here at c.fault) e h in
       rw (s.0, s.1) refl
 
-pub methods_end : (t : ClassTree) (loader : Loader) (supers : List ClassRecord) (methods : List MethodTree) (k : ℕ) (whole : Checked) (mid : List Ask) → length methods ≤ k → Checking whole (methods_checked t loader supers k (drop k methods)) mid → record { asks = mid; fault = None } ≡ whole
+pub methods_end : (t : ClassTree) (loader : Loader) (supers : List Superclass) (methods : List MethodTree) (k : ℕ) (whole : Checked) (mid : List Ask) → length methods ≤ k → Checking whole (methods_checked t loader supers k (drop k methods)) mid → record { asks = mid; fault = None } ≡ whole
 unfolding methods_checked
 methods_end t loader supers methods k whole mid le c =
     let a : whole.asks ≡ mid ++ [] = rw (drop_all k methods le) at c.asks in

@@ -5,17 +5,17 @@ use Rattle.std.proofs.lemmas.Option.{get_or_from_slice_get, slice_get-get_or}
 use Rattle.std.specs.Prelude.{Result, Ok, Err, Some, None, length}
 use Rattle.std.specs.List.{list_any}
 use Rattle.class_tree.specs.declared.tree.Handler.{Handler}
-use Rattle.class_record.specs.declared.record.Ask.{Ask}
-use Rattle.verify_types.specs.declared.types.Frame.{Frame}
-use Rattle.verify_types.specs.Places.{Placed}
-use Rattle.type_verifier.specs.declared.cause.Stop.{Stop}
-use Rattle.type_verifier.specs.declared.cause.Stop.TheVariants.{Fault, Memory}
-use Rattle.type_verifier.specs.Causes.{Typed}
-use Rattle.type_verifier.specs.Asking.{Check, Did, Checked, gives, fine, follows, each, and_then}
-use Rattle.type_verifier.specs.Env.{Env}
-use Rattle.type_verifier.specs.Rows.{row}
-use Rattle.type_verifier.specs.Flow.{Frames, holds, handled, target_fits, target_distances, flows, falls_through, leads, step}
-use Rattle.type_verifier.specs.Walking.{kept_before, handled_from, leads_from}
+use Rattle.verify_rules.specs.declared.ask.Ask.{Ask}
+use Rattle.verify_rules.specs.declared.types.Frame.{Frame}
+use Rattle.verify_rules.specs.Places.{Placed}
+use Rattle.verify_rules.specs.declared.cause.Stop.{Stop}
+use Rattle.verify_rules.specs.declared.cause.Stop.TheVariants.{Fault, Memory}
+use Rattle.verify_rules.specs.Causes.{Typed}
+use Rattle.verify_rules.specs.Asking.{Check, Did, Checked, gives, fine, follows, each, and_then}
+use Rattle.verify_rules.specs.Env.{Env}
+use Rattle.verify_rules.specs.Rows.{row}
+use Rattle.verify_rules.specs.Flow.{Frames, holds, handled, target_fits, target_distances, flows, falls_through, leads, step}
+use Rattle.verify_rules.specs.Walking.{kept_before, handled_from, leads_from}
 use Rattle.type_verifier.proofs.Asked.{did_then, did_stop}
 
 -- an item of a list that is read once more

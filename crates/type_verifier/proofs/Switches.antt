@@ -3,11 +3,11 @@ use Rattle.std.proofs.Common.{◌≡◌, ℕ, ◌+◌, ◌*◌, List, [], ◌∷
 use Rattle.std.specs.Prelude.{Ok, Err}
 use Rattle.std.specs.Int.{w32, cast_signed}
 use Rattle.jsa_base.proofs.Codecs.{some_is}
-use Rattle.class_record.specs.declared.record.Ask.{Ask}
-use Rattle.type_verifier.specs.declared.cause.Stop.{Stop}
-use Rattle.type_verifier.specs.Asking.{Check, Checked, fine, each, and_then}
-use Rattle.type_verifier.specs.Flow.{distances, pair_distances}
-use Rattle.type_verifier.specs.Walking.{first_distance, first_pair}
+use Rattle.verify_rules.specs.declared.ask.Ask.{Ask}
+use Rattle.verify_rules.specs.declared.cause.Stop.{Stop}
+use Rattle.verify_rules.specs.Asking.{Check, Checked, fine, each, and_then}
+use Rattle.verify_rules.specs.Flow.{distances, pair_distances}
+use Rattle.verify_rules.specs.Walking.{first_distance, first_pair}
 use Rattle.type_verifier.proofs.Asked.{Leads, leads_on, leads_stop, leads_to, did_gives}
 
 pub distances_more : (bytes more : List ℕ) (d : ℤ) → Some (d, more) ≡ first_distance bytes → distances bytes ≡ d ∷ distances more

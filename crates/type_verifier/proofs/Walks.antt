@@ -2,17 +2,17 @@
 use Rattle.std.proofs.Common.{◌≡◌, ℕ, ◌+◌, ◌≤◌, List, ◌++◌, length, drop, Option, None, Some, refl, sym, ap, ◌∙◌, append_assoc}
 use Rattle.std.proofs.lemmas.List.{append-nil, drop_all}
 use Rattle.std.specs.Prelude.{Result, Ok, Err, slice_get}
-use Rattle.class_record.specs.declared.record.Ask.{Ask}
-use Rattle.verify_types.specs.declared.types.Frame.{Frame}
-use Rattle.verify_types.specs.Places.{Placed}
-use Rattle.type_verifier.specs.declared.cause.Cause.{Cause}
-use Rattle.type_verifier.specs.declared.cause.Stop.TheVariants.{Fault}
-use Rattle.type_verifier.specs.Causes.{Typed}
-use Rattle.type_verifier.specs.Asking.{Check, Did, Checked}
-use Rattle.type_verifier.specs.Env.{Env}
-use Rattle.type_verifier.specs.Flow.{Frames, declared_at, step}
-use Rattle.type_verifier.specs.Methods.{Found, frame_or, up_to, then_found, ended, walked, found_behind, before_walk}
-use Rattle.type_verifier.specs.Walking.{Finds}
+use Rattle.verify_rules.specs.declared.ask.Ask.{Ask}
+use Rattle.verify_rules.specs.declared.types.Frame.{Frame}
+use Rattle.verify_rules.specs.Places.{Placed}
+use Rattle.verify_rules.specs.declared.cause.Cause.{Cause}
+use Rattle.verify_rules.specs.declared.cause.Stop.TheVariants.{Fault}
+use Rattle.verify_rules.specs.Causes.{Typed}
+use Rattle.verify_rules.specs.Asking.{Check, Did, Checked}
+use Rattle.verify_rules.specs.Env.{Env}
+use Rattle.verify_rules.specs.Flow.{Frames, declared_at, step}
+use Rattle.verify_rules.specs.Methods.{Found, frame_or, up_to, then_found, ended, walked, found_behind, before_walk}
+use Rattle.verify_rules.specs.Walking.{Finds}
 use Rattle.type_verifier.proofs.Numbering.{drop_item}
 
 -- What is found of the rest, behind the questions asked by now, is what is found of the whole behind those before it.

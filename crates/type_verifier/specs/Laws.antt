@@ -5,18 +5,18 @@ use Rattle.std.specs.List.{flat_map, list_any, list_all}
 use Rattle.class_tree.specs.declared.tree.ClassTree.{ClassTree}
 use Rattle.class_tree.specs.declared.tree.MethodTree.{MethodTree}
 use Rattle.loader_rules.specs.declared.loader.Loader.{Loader}
-use Rattle.class_record.specs.declared.record.Ask.{Ask}
-use Rattle.class_record.specs.declared.record.ClassRecord.{ClassRecord}
-use Rattle.verify_types.specs.declared.types.Frame.{Frame}
-use Rattle.verify_types.specs.Places.{Placed, instructions}
-use Rattle.type_verifier.specs.declared.cause.Cause.TheVariants.{NoFrame}
-use Rattle.type_verifier.specs.declared.checking.Place.{Place}
-use Rattle.type_verifier.specs.Causes.{Typed}
-use Rattle.type_verifier.specs.Asking.{Asking, ◌>>=◌, gives, refused}
-use Rattle.type_verifier.specs.Env.{Env}
-use Rattle.type_verifier.specs.Flow.{Frames, declared_at, falls_through, step}
-use Rattle.type_verifier.specs.Methods.{Found, first_frame, placed_frames, entered, walked, method_found}
-use Rattle.type_verifier.specs.Classes.{place, found_in, breaks_final, class_checked}
+use Rattle.verify_rules.specs.declared.ask.Ask.{Ask}
+use Rattle.verify_rules.specs.Superclasses.{Superclass}
+use Rattle.verify_rules.specs.declared.types.Frame.{Frame}
+use Rattle.verify_rules.specs.Places.{Placed, instructions}
+use Rattle.verify_rules.specs.declared.cause.Cause.TheVariants.{NoFrame}
+use Rattle.verify_rules.specs.declared.checking.Place.{Place}
+use Rattle.verify_rules.specs.Causes.{Typed}
+use Rattle.verify_rules.specs.Asking.{Asking, ◌>>=◌, gives, refused}
+use Rattle.verify_rules.specs.Env.{Env}
+use Rattle.verify_rules.specs.Flow.{Frames, declared_at, falls_through, step}
+use Rattle.verify_rules.specs.Methods.{Found, first_frame, placed_frames, entered, walked, method_found}
+use Rattle.verify_rules.specs.Classes.{place, found_in, breaks_final, class_checked}
 
 -- ---- the frames before the instructions
 
@@ -126,11 +126,11 @@ abbrev pub first_fault : ℕ → List Found → Option Place
 first_fault k [] = None
 first_fault k (f ∷ more) = or_else (fault_in k f.fault) (first_fault (k + 1) more)
 
-abbrev pub method_findings : ClassTree → Loader → List ClassRecord → List Found
+abbrev pub method_findings : ClassTree → Loader → List Superclass → List Found
 method_findings t loader supers = map (λ (m : MethodTree). found_in t loader supers m m.code) t.methods
 
 -- The questions of a class are those of its methods in their order.
-pub record ClassInOrder (t : ClassTree) (loader : Loader) (supers : List ClassRecord) : Type 0 where
+pub record ClassInOrder (t : ClassTree) (loader : Loader) (supers : List Superclass) : Type 0 where
   pub asks : (class_checked t loader supers).asks ≡ flat_map (λ (f : Found). f.asks) (through_fault (method_findings t loader supers))
   pub fault : (class_checked t loader supers).fault ≡ first_fault 0 (method_findings t loader supers)
 
@@ -143,7 +143,7 @@ abbrev pub MethodsAreInOrder : Type 0
 MethodsAreInOrder = (e : Env) (first : Frame) (frames : Frames) → nat_eq (length e.code.bytes) 0 ≡ false → first_frame e ≡ Some first → placed_frames e first ≡ Some frames → MethodInOrder e first frames
 
 abbrev pub ClassesAreInOrder : Type 0
-ClassesAreInOrder = (t : ClassTree) (loader : Loader) (supers : List ClassRecord) → breaks_final t loader supers ≡ false → ClassInOrder t loader supers
+ClassesAreInOrder = (t : ClassTree) (loader : Loader) (supers : List Superclass) → breaks_final t loader supers ≡ false → ClassInOrder t loader supers
 
 -- Without a first frame, without frames that stand at instructions, or without code, a method is refused before all questions.
 abbrev pub MethodsAreRefused : Type 0
@@ -163,11 +163,11 @@ CodeGoesOn = (e : Env) (frames : Frames) (s : Placed) (f after : Frame) → (ste
 
 -- A class that extends a final one, or overrides a final method, is faulty, and asks nothing.
 abbrev pub FinalFaultsAskNothing : Type 0
-FinalFaultsAskNothing = (t : ClassTree) (loader : Loader) (supers : List ClassRecord) → breaks_final t loader supers ≡ true → class_checked t loader supers ≡ record { asks = []; fault = Some (place 0 0) }
+FinalFaultsAskNothing = (t : ClassTree) (loader : Loader) (supers : List Superclass) → breaks_final t loader supers ≡ true → class_checked t loader supers ≡ record { asks = []; fault = Some (place 0 0) }
 
 abbrev pub has_no_code : MethodTree → Bool
 has_no_code m = is_none m.code
 
 -- A class whose methods have no code, which breaks nothing that is final, asks nothing and has no fault.
 abbrev pub CodelessClassesAreSound : Type 0
-CodelessClassesAreSound = (t : ClassTree) (loader : Loader) (supers : List ClassRecord) → list_all has_no_code t.methods ≡ true → breaks_final t loader supers ≡ false → class_checked t loader supers ≡ record { asks = []; fault = None }
+CodelessClassesAreSound = (t : ClassTree) (loader : Loader) (supers : List Superclass) → list_all has_no_code t.methods ≡ true → breaks_final t loader supers ≡ false → class_checked t loader supers ≡ record { asks = []; fault = None }

@@ -3,24 +3,22 @@
 //! A kind of elements is counted as the opcodes count them: i, l, f, d, a, b, c, s.
 ghost use Rattle.std.specs.Prelude.{◌≡◌, IfOk};
 ghost use Rattle.std.specs.Option.{option_copied};
-ghost use Rattle.verify_types.specs.declared.types.VType.TheVariants as types;
-ghost use Rattle.type_verifier.specs.Causes.{Does, Gives};
-ghost use Rattle.type_verifier.specs.Assign.{is_array};
-ghost use Rattle.type_verifier.specs.Letters.{is_object_type, pop_where};
-ghost use Rattle.type_verifier.specs.Arrays.{is_array_of, element_letter, is_null_or, pop_place, element_loaded, element_stored, component_of, component_type, component_loaded, reference_loaded, is_reference_array, reference_stored, length_taken, primitive_array, array_made, dimensions, array_over, pop_lengths, arrays_made};
+ghost use Rattle.verify_rules.specs.declared.types.VType.TheVariants as types;
+ghost use Rattle.verify_rules.specs.Causes.{Does, Gives};
+ghost use Rattle.verify_rules.specs.Assign.{is_array};
+ghost use Rattle.verify_rules.specs.Letters.{is_object_type, pop_where};
+ghost use Rattle.verify_rules.specs.Arrays.{is_array_of, element_letter, is_null_or, pop_place, element_loaded, element_stored, component_of, component_type, component_loaded, reference_loaded, is_reference_array, reference_stored, length_taken, primitive_array, array_made, dimensions, array_over, pop_lengths, arrays_made};
 
 use crate::assigning::{element_name, is_array};
-use crate::cause::{Cause, Stop};
-use crate::letter::Letter;
 use crate::letters::{is_object_type, pop_letter, push, type_of_letter};
 use sqlite_items::Items;
 use std::alloc::{AllocError, Global};
-use verify_types::{TypeStack, VType};
+use verify_rules::{Cause, Letter, Stop, TypeStack, VType};
 
 // ---- elements of primitive types
 
 /// Whether an array of this descriptor has elements of a kind. Byte and boolean arrays share their instructions.
-#[tactic(auto, unfolding(crate::specs::Arrays::is_array_of))]
+#[tactic(auto, unfolding(verify_rules::specs::Arrays::is_array_of))]
 fn is_array_of(kind: u8, name: &[u8]) -> bool
     ensures { result ≡ is_array_of kind name.now }
 {
@@ -97,7 +95,7 @@ fn pop_place(kind: u8, stack: &mut TypeStack) -> Result<(), Stop>
 }
 
 /// The row of iaload, laload, faload, daload, baload, caload and saload.
-#[tactic(auto, unfolding(crate::specs::Arrays::element_loaded))]
+#[tactic(auto, unfolding(verify_rules::specs::Arrays::element_loaded))]
 pub(crate) fn element_loaded(room: u16, kind: u8, stack: &mut TypeStack) -> Result<(), Stop>
     ensures { Does (element_loaded room kind stack.old) result stack.new }
 {
@@ -106,7 +104,7 @@ pub(crate) fn element_loaded(room: u16, kind: u8, stack: &mut TypeStack) -> Resu
 }
 
 /// The row of iastore, lastore, fastore, dastore, bastore, castore and sastore.
-#[tactic(auto, unfolding(crate::specs::Arrays::element_stored))]
+#[tactic(auto, unfolding(verify_rules::specs::Arrays::element_stored))]
 pub(crate) fn element_stored(kind: u8, stack: &mut TypeStack) -> Result<(), Stop>
     ensures { Does (element_stored kind stack.old) result stack.new }
 {
@@ -179,7 +177,7 @@ fn component_loaded(alloc: Global, room: u16, stack: &mut TypeStack) -> Result<(
 }
 
 /// The row of aaload.
-#[tactic(auto, unfolding(crate::specs::Arrays::reference_loaded))]
+#[tactic(auto, unfolding(verify_rules::specs::Arrays::reference_loaded))]
 pub(crate) fn reference_loaded(alloc: Global, room: u16, stack: &mut TypeStack) -> Result<(), Stop>
     ensures { Does (reference_loaded room stack.old) result stack.new }
 {
@@ -224,7 +222,7 @@ fn pop_reference_array(stack: &mut TypeStack) -> Result<(), Stop>
 }
 
 /// The row of aastore. It takes any object: whether the element suits the array is tested when it is stored.
-#[tactic(auto, unfolding(crate::specs::Arrays::reference_stored))]
+#[tactic(auto, unfolding(verify_rules::specs::Arrays::reference_stored))]
 pub(crate) fn reference_stored(stack: &mut TypeStack) -> Result<(), Stop>
     ensures { Does (reference_stored stack.old) result stack.new }
 {
@@ -259,7 +257,7 @@ fn pop_any_array(stack: &mut TypeStack) -> Result<(), Stop>
 }
 
 /// The row of arraylength.
-#[tactic(auto, unfolding(crate::specs::Arrays::length_taken))]
+#[tactic(auto, unfolding(verify_rules::specs::Arrays::length_taken))]
 pub(crate) fn length_taken(room: u16, stack: &mut TypeStack) -> Result<(), Stop>
     ensures { Does (length_taken room stack.old) result stack.new }
 {
@@ -268,7 +266,7 @@ pub(crate) fn length_taken(room: u16, stack: &mut TypeStack) -> Result<(), Stop>
 }
 
 /// The descriptor of the array that newarray makes by this code (JVMS 6.5, newarray), and `None` where the code is none.
-#[tactic(auto, unfolding(crate::specs::Arrays::primitive_array))]
+#[tactic(auto, unfolding(verify_rules::specs::Arrays::primitive_array))]
 pub(crate) fn primitive_array(code: u8) -> Option<&'static [u8]>
     ensures { option_copied result ≡ primitive_array code }
 {
@@ -331,7 +329,7 @@ pub(crate) fn primitive_array_made(
 }
 
 /// How many brackets stand at the front of a name.
-#[tactic(auto, unfolding(crate::specs::Arrays::dimensions))]
+#[tactic(auto, unfolding(verify_rules::specs::Arrays::dimensions))]
 fn dimensions(name: &[u8]) -> usize
     ensures { result ≡ dimensions name.now }
 {
@@ -370,7 +368,7 @@ pub(crate) fn array_over(alloc: Global, name: &[u8]) -> Result<Option<Items<u8>>
 }
 
 /// Takes so many lengths.
-#[tactic(auto, unfolding(crate::specs::Arrays::pop_lengths))]
+#[tactic(auto, unfolding(verify_rules::specs::Arrays::pop_lengths))]
 fn pop_lengths(count: u8, stack: &mut TypeStack) -> Result<(), Stop>
     ensures { Does (pop_lengths count stack.old) result stack.new }
 {
@@ -381,7 +379,7 @@ fn pop_lengths(count: u8, stack: &mut TypeStack) -> Result<(), Stop>
 }
 
 /// The row of multianewarray: at least one dimension, and at most those that the array has.
-#[tactic(auto, unfolding(crate::specs::Arrays::arrays_made))]
+#[tactic(auto, unfolding(verify_rules::specs::Arrays::arrays_made))]
 pub(crate) fn arrays_made(
     alloc: Global,
     room: u16,

@@ -1,17 +1,15 @@
 //! Assignability, and the questions that it takes (JVMS 4.10.1.2).
 ghost use Rattle.std.specs.Prelude.{◌≡◌, [], ◌&&◌, cond, codes, nat_eq};
 ghost use Rattle.std.specs.Str.{bytes_eq};
-ghost use Rattle.verify_types.specs.Types.{is_made_at};
-ghost use Rattle.verify_types.specs.declared.types.VType.TheVariants as types;
-ghost use Rattle.type_verifier.specs.declared.cause.Cause.TheVariants.{Mismatch};
-ghost use Rattle.type_verifier.specs.Asking.{Checked, asks_for, test};
-ghost use Rattle.type_verifier.specs.Assign.{is_array, is_bracket, is_class_letter, is_above_arrays, element_name, behind_first, class_assign, component_assign, object_assign, reference_assign, assign, local_assign};
+ghost use Rattle.verify_rules.specs.Types.{is_made_at};
+ghost use Rattle.verify_rules.specs.declared.types.VType.TheVariants as types;
+ghost use Rattle.verify_rules.specs.declared.cause.Cause.TheVariants.{Mismatch};
+ghost use Rattle.verify_rules.specs.Asking.{Checked, asks_for, test};
+ghost use Rattle.verify_rules.specs.Assign.{is_array, is_bracket, is_class_letter, is_above_arrays, element_name, behind_first, class_assign, component_assign, object_assign, reference_assign, assign, local_assign};
 
-use crate::cause::{Cause, Stop};
-use class_record::Ask;
 use sqlite_items::Items;
 use std::alloc::Global;
-use verify_types::VType;
+use verify_rules::{Ask, Cause, Stop, VType};
 
 /// A test that asks nothing.
 pub(crate) fn test(cause: Cause, holds: bool) -> Result<(), Stop>
@@ -115,7 +113,7 @@ fn element_assign(
 }
 
 // The component of an array to that of another, by their descriptors.
-#[tactic(auto, unfolding(crate::specs::Assign::component_assign))]
+#[tactic(auto, unfolding(verify_rules::specs::Assign::component_assign))]
 fn component_assign(
     alloc: Global,
     asks: &mut Items<Ask>,
@@ -164,7 +162,7 @@ fn behind_first(name: &[u8]) -> &[u8]
 }
 
 /// The name of a class or the descriptor of an array, to another.
-#[tactic(auto, unfolding(crate::specs::Assign::object_assign))]
+#[tactic(auto, unfolding(verify_rules::specs::Assign::object_assign))]
 pub(crate) fn object_assign(
     alloc: Global,
     asks: &mut Items<Ask>,
@@ -214,7 +212,7 @@ fn is_made_at(place: u32, t: &VType) -> bool
 }
 
 /// A type to another (JVMS 4.10.1.2).
-#[tactic(auto, unfolding(crate::specs::Assign::assign))]
+#[tactic(auto, unfolding(verify_rules::specs::Assign::assign))]
 pub(crate) fn assign(
     alloc: Global,
     asks: &mut Items<Ask>,
@@ -239,7 +237,7 @@ pub(crate) fn assign(
 }
 
 /// A type to another in a local, where anything is assignable to Top (JVMS 4.10.1.2).
-#[tactic(auto, unfolding(crate::specs::Assign::local_assign))]
+#[tactic(auto, unfolding(verify_rules::specs::Assign::local_assign))]
 pub(crate) fn local_assign(
     alloc: Global,
     asks: &mut Items<Ask>,
@@ -255,7 +253,7 @@ pub(crate) fn local_assign(
 }
 
 /// A class to a type, as if the class were one (JVMS 4.10.1.2).
-#[tactic(auto, unfolding(crate::specs::Assign::assign))]
+#[tactic(auto, unfolding(verify_rules::specs::Assign::assign))]
 pub(crate) fn name_assign(
     alloc: Global,
     asks: &mut Items<Ask>,

@@ -1,11 +1,9 @@
 // Pairs of types with the questions that they take.
 use crate::assigning::{assign, local_assign};
-use crate::cause::{Cause, Stop};
 use crate::test_rows::wrong_rows;
-use class_record::Ask;
 use sqlite_items::Items;
 use std::alloc::{AllocError, Global};
-use verify_types::VType;
+use verify_rules::{Ask, Cause, Stop, VType};
 
 // A type, the one that it is assigned to, and the answer: `fine` without a question, `no`, or the question. `@3` is an
 // object without `<init>` by the place of its `new`.

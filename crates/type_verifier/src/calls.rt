@@ -1,24 +1,22 @@
 //! Calls of methods that are no constructors (JVMS 4.10.1.9).
 ghost use Rattle.std.specs.Prelude.{◌≡◌, ◌+◌, ◌∷◌, length, IfOk};
 ghost use Rattle.jsa_names.specs.Types.{method_type_of};
-ghost use Rattle.verify_types.specs.declared.types.VType.{VType};
-ghost use Rattle.type_verifier.specs.Asking.{Did};
-ghost use Rattle.type_verifier.specs.Calls as calls;
-ghost use Rattle.type_verifier.specs.Env.{vtypes_of};
+ghost use Rattle.verify_rules.specs.declared.types.VType.{VType};
+ghost use Rattle.verify_rules.specs.Asking.{Did};
+ghost use Rattle.verify_rules.specs.Calls as calls;
+ghost use Rattle.verify_rules.specs.Env.{vtypes_of};
 
-use crate::cause::{Cause, Stop};
 use crate::descriptors::{behind, vtypes};
 use crate::env::Env;
 use crate::members::{
-    Member, any_method_at, call_site_at, interface_method_at, is_plain_method, method_at,
+    NamedMember, any_method_at, call_site_at, interface_method_at, is_plain_method, method_at,
     method_test,
 };
 use crate::operands::{drop_items, object, operands_pass, put_result, took};
-use class_record::Ask;
 use jsa_names::{MethodType, method_type};
 use sqlite_items::Items;
 use std::alloc::{AllocError, Global};
-use verify_types::{TypeStack, VType};
+use verify_rules::{Ask, Cause, Stop, TypeStack, VType};
 
 // A call without an object.
 fn static_called(
@@ -51,7 +49,7 @@ pub(crate) fn object_called(
     asks: &mut Items<Ask>,
     e: &Env<'_>,
     class: &[u8],
-    m: &Member<'_>,
+    m: &NamedMember<'_>,
     t: &MethodType<'_>,
     stack: &mut TypeStack,
 ) -> Result<(), Stop>
@@ -65,7 +63,7 @@ pub(crate) fn object_called(
 }
 
 /// invokevirtual.
-#[tactic(auto, unfolding(crate::specs::Calls::virtual_row))]
+#[tactic(auto, unfolding(verify_rules::specs::Calls::virtual_row))]
 pub(crate) fn virtual_row(
     alloc: Global,
     asks: &mut Items<Ask>,
@@ -88,7 +86,7 @@ pub(crate) fn virtual_row(
 }
 
 /// invokestatic.
-#[tactic(auto, unfolding(crate::specs::Calls::static_row))]
+#[tactic(auto, unfolding(verify_rules::specs::Calls::static_row))]
 pub(crate) fn static_row(
     alloc: Global,
     asks: &mut Items<Ask>,
@@ -115,7 +113,7 @@ fn interface_typed(
     asks: &mut Items<Ask>,
     e: &Env<'_>,
     count: u8,
-    m: &Member<'_>,
+    m: &NamedMember<'_>,
     stack: &mut TypeStack,
 ) -> Result<(), Stop>
     ensures { Did (calls.interface_typed e.now count m.now (method_type_of m.now.desc) stack.old) asks.old asks.new result stack.new }
@@ -130,7 +128,7 @@ fn interface_typed(
 }
 
 /// invokeinterface. The slots of the parameters and of the object are counted behind the index, and then comes a 0.
-#[tactic(auto, unfolding(crate::specs::Calls::interface_row))]
+#[tactic(auto, unfolding(verify_rules::specs::Calls::interface_row))]
 pub(crate) fn interface_row(
     alloc: Global,
     asks: &mut Items<Ask>,
@@ -152,7 +150,7 @@ pub(crate) fn interface_row(
 }
 
 /// invokedynamic. Two zeros stand behind the index.
-#[tactic(auto, unfolding(crate::specs::Calls::dynamic_row))]
+#[tactic(auto, unfolding(verify_rules::specs::Calls::dynamic_row))]
 pub(crate) fn dynamic_row(
     alloc: Global,
     asks: &mut Items<Ask>,

@@ -2,21 +2,21 @@
 ghost use Rattle.std.specs.Prelude.{◌≡◌, ◌&&◌, [], ◌∷◌, Some, IfOk};
 ghost use Rattle.std.specs.List.{list_any};
 ghost use Rattle.std.specs.Option.{option_map};
+ghost use Rattle.class_tree.specs.Flags.{is_final};
 ghost use Rattle.class_tree.specs.WellFormed.{text_of, are_equal};
-ghost use Rattle.class_record.specs.Trees.{own_name};
-ghost use Rattle.verify_types.specs.Types.{top_first};
-ghost use Rattle.type_verifier.specs.Walking.{Finds, is_final};
-ghost use Rattle.type_verifier.specs.Classes.{origin, is_same_signature, shares_with, is_overridden, overridden_in, overrides_final, may_override, breaks_final_method, has_final_superclass, breaks_final, place, found_in, methods_checked, class_checked};
+ghost use Rattle.class_tree.specs.ClassNames.{own_name};
+ghost use Rattle.verify_rules.specs.Types.{top_first};
+ghost use Rattle.verify_rules.specs.Walking.{Finds, is_final_method};
+ghost use Rattle.verify_rules.specs.Classes.{origin, is_same_signature, shares_with, is_overridden, overridden_in, overrides_final, may_override, breaks_final_method, has_final_superclass, breaks_final, place, found_in, methods_checked, class_checked};
 
-use crate::checking::{Checked, Place};
 use crate::env::Env;
 use crate::methods::method_found;
-use class_record::{Ask, ClassRecord, MethodRecord};
-use class_tree::{ClassTree, MethodTree, has_flag};
+use class_tree::{ClassTree, MethodTree, is_final, is_private, is_protected, is_public, is_static};
 use loader_rules::{Loader, same_package};
 use sqlite_items::Items;
 use std::alloc::{AllocError, Global};
 use std::marker::Model;
+use verify_rules::{Ask, Checked, Member, Place, Superclass};
 
 // ---- final classes and methods
 
@@ -28,18 +28,18 @@ struct Origin<'a> {
 }
 
 impl<'a> Model for Origin<'a> {
-    ghost use Rattle.type_verifier.specs.Classes.{Origin};
+    ghost use Rattle.verify_rules.specs.Classes.{Origin};
 
     ghost Value = { Origin };
 
     ghost view = { λ o. record { name = o.name.now; loader = o.loader } };
 }
 
-fn origin_of(c: &ClassRecord) -> Origin<'_>
+fn origin_of<'a>(c: &Superclass<'a>) -> Origin<'a>
     ensures { result ≡ origin c.now }
 {
     Origin {
-        name: c.name.as_slice(),
+        name: c.name,
         loader: c.loader,
     }
 }
@@ -64,20 +64,20 @@ fn is_text(tree: &ClassTree, index: u16, text: &[u8]) -> bool
     }
 }
 
-fn is_same_signature(tree: &ClassTree, m: &MethodTree, upper: &MethodRecord) -> bool
+fn is_same_signature(tree: &ClassTree, m: &MethodTree, upper: &Member<'_>) -> bool
     ensures { result ≡ is_same_signature tree.now m.now upper.now }
 {
-    is_text(tree, m.name, upper.name.as_slice()) && is_text(tree, m.desc, upper.desc.as_slice())
+    is_text(tree, m.name, upper.name) && is_text(tree, m.desc, upper.desc)
 }
 
-fn shares_with(c: &ClassRecord, lower: &Origin<'_>) -> bool
+fn shares_with(c: &Superclass<'_>, lower: &Origin<'_>) -> bool
     ensures { result ≡ shares_with c.now lower.now }
 {
-    same_package(lower.name, lower.loader, c.name.as_slice(), c.loader)
+    same_package(lower.name, lower.loader, c.name, c.loader)
 }
 
 // Whether one of these classes is of the run-time package of another one.
-fn some_shares(c: &ClassRecord, lower: &[Origin<'_>]) -> bool
+fn some_shares(c: &Superclass<'_>, lower: &[Origin<'_>]) -> bool
     ensures { result ≡ list_any (shares_with c.now) lower.now }
 {
     lower.iter().any(|class| shares_with(c, class))
@@ -85,22 +85,29 @@ fn some_shares(c: &ClassRecord, lower: &[Origin<'_>]) -> bool
 
 // Whether one of these classes, the lowest last, can override a method of another one.
 #[tactic(auto, using(crate::proofs::Overriding::any_top_first))]
-fn is_overridden(lower: &[Origin<'_>], c: &ClassRecord, upper: &MethodRecord) -> bool
+fn is_overridden(lower: &[Origin<'_>], c: &Superclass<'_>, upper: &Member<'_>) -> bool
     ensures { result ≡ is_overridden (top_first lower.now) c.now upper.now }
 {
-    !has_flag(upper.flags, 0x000a) && (has_flag(upper.flags, 0x0005) || some_shares(c, lower))
+    !(is_private(upper.flags) || is_static(upper.flags))
+        && (is_public(upper.flags) || is_protected(upper.flags) || some_shares(c, lower))
 }
 
 fn overrides(
     tree: &ClassTree,
     m: &MethodTree,
     lower: &[Origin<'_>],
-    c: &ClassRecord,
-    upper: &MethodRecord,
+    c: &Superclass<'_>,
+    upper: &Member<'_>,
 ) -> bool
     ensures { result ≡ (is_same_signature tree.now m.now upper.now && is_overridden (top_first lower.now) c.now upper.now) }
 {
     is_same_signature(tree, m, upper) && is_overridden(lower, c, upper)
+}
+
+fn is_final_method(upper: &Member<'_>) -> bool
+    ensures { result ≡ is_final_method upper.now }
+{
+    is_final(upper.flags)
 }
 
 // Whether the method of a superclass that a method overrides is final. `None` where it overrides none.
@@ -108,17 +115,29 @@ fn overridden_final(
     tree: &ClassTree,
     m: &MethodTree,
     lower: &[Origin<'_>],
-    c: &ClassRecord,
-    methods: &[MethodRecord],
+    c: &Superclass<'_>,
+    methods: &[Member<'_>],
 ) -> Option<bool>
-    ensures { result ≡ option_map is_final (overridden_in tree.now m.now (top_first lower.now) c.now methods.now) }
+    ensures { result ≡ option_map is_final_method (overridden_in tree.now m.now (top_first lower.now) c.now methods.now) }
 {
     for upper in methods {
         if overrides(tree, m, lower, c, upper) {
-            return Some(has_flag(upper.flags, 0x0010));
+            return Some(is_final_method(upper));
         }
     }
     None
+}
+
+// The same of the methods of the superclass itself.
+fn overridden_of(
+    tree: &ClassTree,
+    m: &MethodTree,
+    lower: &[Origin<'_>],
+    c: &Superclass<'_>,
+) -> Option<bool>
+    ensures { result ≡ option_map is_final_method (overridden_in tree.now m.now (top_first lower.now) c.now c.now.methods) }
+{
+    overridden_final(tree, m, lower, c, c.methods.as_slice())
 }
 
 // Whether a method overrides a final one of these superclasses, from the direct one up: itself, or by one that it overrides.
@@ -127,14 +146,14 @@ fn overrides_final(
     tree: &ClassTree,
     loader: Loader,
     m: &MethodTree,
-    supers: &[ClassRecord],
+    supers: &[Superclass<'_>],
 ) -> Result<bool, AllocError>
     ensures { IfOk result (λ overrides. overrides ≡ overrides_final tree.now m.now (record { name = own_name tree.now; loader = loader } ∷ []) supers.now) }
 {
     let mut lower = Items::new(alloc);
     lower.push(own_origin(tree, loader))?;
     for c in supers {
-        match overridden_final(tree, m, lower.as_slice(), c, c.methods.as_slice()) {
+        match overridden_of(tree, m, lower.as_slice(), c) {
             Some(true) => return Ok(true),
             Some(false) => lower.push(origin_of(c))?,
             None => {}
@@ -146,14 +165,14 @@ fn overrides_final(
 fn may_override(m: &MethodTree) -> bool
     ensures { result ≡ may_override m.now }
 {
-    !has_flag(m.flags, 0x000a)
+    !(is_private(m.flags) || is_static(m.flags))
 }
 
 fn breaks_final_method(
     alloc: Global,
     tree: &ClassTree,
     loader: Loader,
-    supers: &[ClassRecord],
+    supers: &[Superclass<'_>],
     m: &MethodTree,
 ) -> Result<bool, AllocError>
     ensures { IfOk result (λ breaks. breaks ≡ breaks_final_method tree.now loader supers.now m.now) }
@@ -168,7 +187,7 @@ fn some_method_breaks(
     alloc: Global,
     tree: &ClassTree,
     loader: Loader,
-    supers: &[ClassRecord],
+    supers: &[Superclass<'_>],
     methods: &[MethodTree],
 ) -> Result<bool, AllocError>
     ensures { IfOk result (λ breaks. breaks ≡ list_any (breaks_final_method tree.now loader supers.now) methods.now) }
@@ -181,22 +200,28 @@ fn some_method_breaks(
     Ok(false)
 }
 
-fn has_final_superclass(supers: &[ClassRecord]) -> bool
+fn is_final_class(c: &Superclass<'_>) -> bool
+    ensures { result ≡ is_final c.now.flags }
+{
+    is_final(c.flags)
+}
+
+fn has_final_superclass(supers: &[Superclass<'_>]) -> bool
     ensures { result ≡ has_final_superclass supers.now }
 {
     let [c, ..] = supers else {
         return false;
     };
-    has_flag(c.flags, 0x0010)
+    is_final_class(c)
 }
 
 // Whether the direct superclass is final, or a method overrides a final one.
-#[tactic(auto, unfolding(crate::specs::Classes::breaks_final))]
+#[tactic(auto, unfolding(verify_rules::specs::Classes::breaks_final))]
 fn breaks_final(
     alloc: Global,
     tree: &ClassTree,
     loader: Loader,
-    supers: &[ClassRecord],
+    supers: &[Superclass<'_>],
 ) -> Result<bool, AllocError>
     ensures { IfOk result (λ breaks. breaks ≡ breaks_final tree.now loader supers.now) }
 {
@@ -214,7 +239,7 @@ fn found_in(
     asks: &mut Items<Ask>,
     tree: &ClassTree,
     loader: Loader,
-    supers: &[ClassRecord],
+    supers: &[Superclass<'_>],
     method: &MethodTree,
 ) -> Result<Option<u32>, AllocError>
     ensures { Finds (found_in tree.now loader supers.now method.now method.now.code) asks.old asks.new result }
@@ -251,7 +276,7 @@ fn methods_checked(
     alloc: Global,
     tree: &ClassTree,
     loader: Loader,
-    supers: &[ClassRecord],
+    supers: &[Superclass<'_>],
     methods: &[MethodTree],
 ) -> Result<Checked, AllocError>
     ensures { IfOk result (λ checked. checked ≡ methods_checked tree.now loader supers.now 0 methods.now) }
@@ -292,12 +317,12 @@ fn methods_checked(
 /// # Errors
 ///
 /// `AllocError` comes where memory runs out, or where the number of a faulty method doesn't fit, which no class file reaches.
-#[tactic(auto, unfolding(crate::specs::Classes::class_checked))]
+#[tactic(auto, unfolding(verify_rules::specs::Classes::class_checked))]
 pub fn check_class(
     alloc: Global,
     tree: &ClassTree,
     loader: Loader,
-    supers: &[ClassRecord],
+    supers: &[Superclass<'_>],
 ) -> Result<Checked, AllocError>
     ensures { IfOk result (λ checked. checked ≡ class_checked tree.now loader supers.now) }
 {

@@ -1,14 +1,14 @@
 // Classes whose methods have no code: what they must not override, and each law once.
 use crate::test_rows::wrong_rows;
 use crate::{
-    Checked, Place, check_class, frames_stand, methods_are_refused, questions_are_in_order,
+    check_class, frames_stand, methods_are_refused, questions_are_in_order,
     some_classes_ask_nothing,
 };
-use class_record::{ClassRecord, MethodRecord, Tables};
 use class_tree::{ClassTree, MethodTree, Pool, PoolEntry};
 use loader_rules::Loader;
 use sqlite_items::Items;
 use std::alloc::{AllocError, Global};
+use verify_rules::{Checked, Member, Place, Superclass};
 
 fn text(alloc: Global, text: &[u8]) -> Result<PoolEntry, AllocError> {
     Ok(PoolEntry::Utf8(Items::from_slice(alloc, text)?))
@@ -42,32 +42,24 @@ fn lower(alloc: Global, flags: u16) -> Result<ClassTree, AllocError> {
 }
 
 // A class of a name with these flags, which declares m()V with those of the method.
-fn upper(alloc: Global, name: &[u8], flags: u16, method: u16) -> Result<ClassRecord, AllocError> {
+fn upper(
+    alloc: Global,
+    name: &[u8],
+    flags: u16,
+    method: u16,
+) -> Result<Superclass<'_>, AllocError> {
     let mut methods = Items::new(alloc);
-    methods.push(MethodRecord {
-        name: Items::from_slice(alloc, b"m")?,
-        desc: Items::from_slice(alloc, b"()V")?,
+    methods.push(Member {
+        name: b"m",
+        desc: b"()V",
         flags: method,
-        code: None,
     })?;
-    Ok(ClassRecord {
-        name: Items::from_slice(alloc, name)?,
-        flags,
+    Ok(Superclass {
+        name,
         loader: Loader::App,
-        major: 52,
-        sup: None,
-        interfaces: Items::new(alloc),
-        pool: Items::new(alloc),
+        flags,
         fields: Items::new(alloc),
         methods,
-        tables: Tables {
-            slots: Items::new(alloc),
-            itables: Items::new(alloc),
-        },
-        asks: Items::new(alloc),
-        instance_size: 0,
-        static_size: 0,
-        folder: 2,
     })
 }
 
@@ -88,13 +80,13 @@ fn flags_of(word: &str) -> u16 {
 }
 
 // A class by its name, its flags and those of its method.
-fn upper_of(alloc: Global, words: &str) -> Result<ClassRecord, AllocError> {
+fn upper_of(alloc: Global, words: &str) -> Result<Superclass<'_>, AllocError> {
     let (name, both) = words.split_once(' ').unwrap_or((words, ""));
     let (flags, method) = both.split_once(' ').unwrap_or((both, ""));
     upper(alloc, name.as_bytes(), flags_of(flags), flags_of(method))
 }
 
-fn supers_of(alloc: Global, words: &str) -> Result<Vec<ClassRecord>, AllocError> {
+fn supers_of(alloc: Global, words: &str) -> Result<Vec<Superclass<'_>>, AllocError> {
     let mut all = Vec::new(alloc);
     for class in words.split(';') {
         all.push(upper_of(alloc, class)?)?;
@@ -106,7 +98,7 @@ fn say_checked(
     alloc: Global,
     said: &mut String,
     tree: &ClassTree,
-    supers: &[ClassRecord],
+    supers: &[Superclass<'_>],
 ) -> Result<(), AllocError> {
     let checked = check_class(alloc, tree, Loader::App, supers)?;
     said.push_str(found_word(&checked))

@@ -5,36 +5,42 @@ ghost use Rattle.std.specs.Option.{option_copied};
 ghost use Rattle.std.specs.Str.{bytes_eq};
 ghost use Rattle.jsa_names.specs.Types.{JavaMethod, method_type_of};
 ghost use Rattle.jsa_ops.specs.Reading.{placed, instruction_at};
-ghost use Rattle.class_record.specs.declared.record.ClassRecord.{ClassRecord};
-ghost use Rattle.class_record.specs.Trees.{sup_name, interface_names};
+ghost use Rattle.verify_rules.specs.Superclasses.{Superclass};
+ghost use Rattle.class_tree.specs.ClassNames.{sup_name, interface_names};
 ghost use Rattle.class_tree.specs.Links.{holds};
 ghost use Rattle.class_tree.specs.WellFormed.{are_equal, class_name};
-ghost use Rattle.verify_types.specs.Types.{size, turned_all};
-ghost use Rattle.type_verifier.specs.Asking.{Did, Checked};
-ghost use Rattle.type_verifier.specs.Calls as calls;
-ghost use Rattle.type_verifier.specs.Env.{Env as Environment, pool_of, this_name, vtypes_of};
-ghost use Rattle.type_verifier.specs.Members as members;
+ghost use Rattle.verify_rules.specs.Types.{size, turned_all};
+ghost use Rattle.verify_rules.specs.Asking.{Did, Checked};
+ghost use Rattle.verify_rules.specs.Calls as calls;
+ghost use Rattle.verify_rules.specs.Env.{Env as Environment, pool_of, this_name, vtypes_of};
+ghost use Rattle.verify_rules.specs.Members as members;
 
 use crate::calls::object_called;
-use crate::cause::{Cause, Stop};
 use crate::descriptors::{behind, vtypes};
 use crate::env::Env;
-use crate::members::{Member, any_method_at, method_at, method_test};
+use crate::members::{NamedMember, any_method_at, method_at, method_test};
 use crate::operands::{object, took};
-use class_record::{Ask, ClassRecord};
 use class_tree::{ClassTree, Pool, is_clinit, is_init, returns_void};
 use jsa_base::Cursor;
 use jsa_names::{MethodType, method_type};
 use sqlite_items::Items;
 use std::alloc::{AllocError, Global};
-use verify_types::{Frame, TypeStack, Unfinished, VType, copied, turn_locals};
+use verify_rules::{
+    Ask, Cause, Frame, Stop, Superclass, TypeStack, Unfinished, VType, copied, turn_locals,
+};
 
 // ---- methods of classes above
 
-fn is_above(supers: &[ClassRecord], name: &[u8]) -> bool
-    ensures { result ≡ list_any (λ (c : ClassRecord). bytes_eq c.name name.now) supers.now }
+fn has_name(c: &Superclass<'_>, name: &[u8]) -> bool
+    ensures { result ≡ bytes_eq c.now.name name.now }
 {
-    supers.iter().any(|c| c.name.as_slice() == name)
+    c.name == name
+}
+
+fn is_above(supers: &[Superclass<'_>], name: &[u8]) -> bool
+    ensures { result ≡ list_any (λ (c : Superclass). bytes_eq c.name name.now) supers.now }
+{
+    supers.iter().any(|c| has_name(c, name))
 }
 
 // Whether one of the direct superinterfaces has the name.
@@ -73,7 +79,7 @@ fn is_class(pool: &Pool, k: u16, name: &[u8]) -> bool
 }
 
 // Whether a name is that of the class itself, of a superclass or of a direct superinterface.
-#[tactic(auto, unfolding(crate::specs::Calls::is_lineal))]
+#[tactic(auto, unfolding(verify_rules::specs::Calls::is_lineal))]
 fn is_lineal(e: &Env<'_>, name: &[u8]) -> bool
     ensures { result ≡ calls.is_lineal e.now name.now }
 {
@@ -85,7 +91,7 @@ fn special_called(
     alloc: Global,
     asks: &mut Items<Ask>,
     e: &Env<'_>,
-    m: &Member<'_>,
+    m: &NamedMember<'_>,
     stack: &mut TypeStack,
 ) -> Result<(), Stop>
     ensures { Did (calls.special_called e.now m.now stack.old) asks.old asks.new result stack.new }
@@ -103,7 +109,7 @@ fn special_named(
     alloc: Global,
     asks: &mut Items<Ask>,
     e: &Env<'_>,
-    m: &Member<'_>,
+    m: &NamedMember<'_>,
     frame: &mut Frame,
 ) -> Result<(), Stop>
     ensures { Did (calls.special_named e.now m.now frame.old) asks.old asks.new result frame.new }
@@ -131,7 +137,7 @@ fn new_index(bytes: &[u8]) -> Option<u16>
 }
 
 // The class that the `new` at a place names.
-#[tactic(auto, unfolding(crate::specs::Calls::made_class))]
+#[tactic(auto, unfolding(verify_rules::specs::Calls::made_class))]
 fn made_class<'a>(e: &Env<'a>, place: u32) -> Option<&'a [u8]>
     ensures { option_copied result ≡ calls.made_class e.now place }
 {
@@ -204,7 +210,7 @@ fn turn(alloc: Global, old: Unfinished, new: &VType, frame: &mut Frame) -> Resul
 fn finish(
     alloc: Global,
     e: &Env<'_>,
-    m: &Member<'_>,
+    m: &NamedMember<'_>,
     old: Unfinished,
     frame: &mut Frame,
 ) -> Result<(), AllocError>
@@ -229,7 +235,7 @@ fn constructor_test(
     alloc: Global,
     asks: &mut Items<Ask>,
     e: &Env<'_>,
-    m: &Member<'_>,
+    m: &NamedMember<'_>,
     old: Unfinished,
     object: &VType,
 ) -> Result<(), Stop>
@@ -260,7 +266,7 @@ fn constructed_on(
     alloc: Global,
     asks: &mut Items<Ask>,
     e: &Env<'_>,
-    m: &Member<'_>,
+    m: &NamedMember<'_>,
     types: Items<VType>,
     old: Unfinished,
     object: &VType,
@@ -278,7 +284,7 @@ fn constructor_typed(
     alloc: Global,
     asks: &mut Items<Ask>,
     e: &Env<'_>,
-    m: &Member<'_>,
+    m: &NamedMember<'_>,
     t: &MethodType<'_>,
     frame: &mut Frame,
 ) -> Result<(), Stop>
@@ -317,7 +323,7 @@ fn constructor_named(
 }
 
 /// invokespecial: a constructor, or a method of the class itself, a superclass or a direct superinterface.
-#[tactic(auto, unfolding(crate::specs::Calls::special_row))]
+#[tactic(auto, unfolding(verify_rules::specs::Calls::special_row))]
 pub(crate) fn special_row(
     alloc: Global,
     asks: &mut Items<Ask>,

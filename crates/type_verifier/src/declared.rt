@@ -1,14 +1,14 @@
 //! The frames that a method declares, by their places.
 ghost use Rattle.std.specs.Prelude.{◌≡◌, ◌<◌, ◌≤◌, ◌^◌, ℕ, length, slice_get, IfOk, OnOk};
 ghost use Rattle.std.specs.Option.{option_copied, option_map};
-ghost use Rattle.verify_types.specs.declared.types.Frame.{Frame};
-ghost use Rattle.type_verifier.specs.Flow.{declared_at};
-ghost use Rattle.type_verifier.specs.Walking.{Numbers, Puts, SameNumbers, number_at};
+ghost use Rattle.verify_rules.specs.declared.types.Frame.{Frame};
+ghost use Rattle.verify_rules.specs.Flow.{declared_at};
+ghost use Rattle.verify_rules.specs.Walking.{Numbers, Puts, SameNumbers, number_at};
 
 use sqlite_items::Items;
 use std::alloc::{AllocError, Global};
 use std::marker::Model;
-use verify_types::Frame;
+use verify_rules::Frame;
 
 /// Declared frames. The one of a place is found at once.
 ///
@@ -22,11 +22,11 @@ pub(crate) struct Declared {
 
 impl Model for Declared {
     ghost use Rattle.std.specs.Prelude.{◌≡◌, ℕ, List};
-    ghost use Rattle.verify_types.specs.declared.types.Frame.{Frame};
+    ghost use Rattle.verify_rules.specs.declared.types.Frame.{Frame};
 
     ghost Value = { List (ℕ × Frame) };
 
-    ghost use Rattle.type_verifier.specs.Walking.{Numbers};
+    ghost use Rattle.verify_rules.specs.Walking.{Numbers};
 
     ghost view = { λ d. d.frames };
 

@@ -1,13 +1,13 @@
 //! The types of values by descriptors (JVMS 4.3).
 ghost use Rattle.std.specs.Prelude.{◌≡◌, ◌++◌, ◌∷◌, length, replicate, IfOk};
 ghost use Rattle.jsa_names.specs.Types.{field_shown};
-ghost use Rattle.type_verifier.specs.Env as envs;
-ghost use Rattle.type_verifier.specs.Env.{vtype_of, vtypes_of};
+ghost use Rattle.verify_rules.specs.Env as envs;
+ghost use Rattle.verify_rules.specs.Env.{vtype_of, vtypes_of};
 
 use jsa_names::{FieldType, MethodType, field_type};
 use sqlite_items::Items;
 use std::alloc::{AllocError, Global};
-use verify_types::VType;
+use verify_rules::VType;
 
 // An array is named by its descriptor.
 fn array_name(alloc: Global, depth: u8, element: &[u8]) -> Result<Items<u8>, AllocError>
@@ -41,7 +41,7 @@ pub(crate) fn vtype(alloc: Global, t: &FieldType<'_>) -> Result<VType, AllocErro
 }
 
 /// The types of the parameters of a method, in their order.
-#[tactic(auto, unfolding(crate::specs::Env::vtypes_of))]
+#[tactic(auto, unfolding(verify_rules::specs::Env::vtypes_of))]
 pub(crate) fn vtypes(alloc: Global, m: &MethodType<'_>) -> Result<Items<VType>, AllocError>
     ensures types { IfOk result (λ types. types ≡ vtypes_of m.now.parameters) }
     ensures count { IfOk result (λ types. length types ≡ length m.now.parameters) }
@@ -71,7 +71,7 @@ pub(crate) fn behind(
 }
 
 /// The type of a field with this descriptor. `None` exactly where it is none.
-#[tactic(auto, unfolding(crate::specs::Env::field_vtype))]
+#[tactic(auto, unfolding(verify_rules::specs::Env::field_vtype))]
 pub(crate) fn field_vtype(alloc: Global, desc: &[u8]) -> Result<Option<VType>, AllocError>
     ensures { IfOk result (λ t. t ≡ envs.field_vtype desc.now) }
 {

@@ -1,17 +1,16 @@
 //! What a method is typed in.
 ghost use Rattle.std.specs.Prelude.{◌≡◌, IfOk};
-ghost use Rattle.class_record.specs.Trees.{or_empty};
+ghost use Rattle.class_tree.specs.ClassNames.{or_empty};
 ghost use Rattle.class_tree.specs.WellFormed.{text_of};
-ghost use Rattle.type_verifier.specs.Env as envs;
+ghost use Rattle.verify_rules.specs.Env as envs;
 
-use class_record::ClassRecord;
 use class_tree::{ClassTree, CodeTree, MethodTree, Pool, is_init};
 use jsa_names::{MethodType, method_type};
 use loader_rules::Loader;
 use sqlite_items::Items;
 use std::alloc::{AllocError, Global};
 use std::marker::Model;
-use verify_types::VType;
+use verify_rules::{Superclass, VType};
 
 /// A method with its code, in its class.
 #[derive(Drop)]
@@ -20,13 +19,13 @@ pub(crate) struct Env<'a> {
     /// The loader that defines the class.
     pub loader: Loader,
     /// The superclasses, from the direct one up.
-    pub supers: &'a [ClassRecord],
+    pub supers: &'a [Superclass<'a>],
     pub method: &'a MethodTree,
     pub code: &'a CodeTree,
 }
 
 impl<'a> Model for Env<'a> {
-    ghost use Rattle.type_verifier.specs.Env.{Env};
+    ghost use Rattle.verify_rules.specs.Env.{Env};
 
     ghost Value = { Env };
 
@@ -83,7 +82,7 @@ impl<'a> Env<'a> {
     }
 
     /// The type of the method. `None` exactly where its descriptor is none.
-    #[tactic(auto, unfolding(crate::specs::Env::own_type))]
+    #[tactic(auto, unfolding(verify_rules::specs::Env::own_type))]
     pub(crate) fn own_type(&self) -> Option<MethodType<'a>>
         ensures { result ≡ envs.own_type self.now }
     {

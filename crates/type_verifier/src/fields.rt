@@ -1,26 +1,24 @@
 //! getstatic, putstatic, getfield and putfield (JVMS 4.10.1.9).
 ghost use Rattle.std.specs.Prelude.{◌≡◌};
 ghost use Rattle.std.specs.Option.{option_copied};
-ghost use Rattle.type_verifier.specs.Asking.{Did};
-ghost use Rattle.type_verifier.specs.Calls as calls;
+ghost use Rattle.verify_rules.specs.Asking.{Did};
+ghost use Rattle.verify_rules.specs.Calls as calls;
 
-use crate::cause::{Cause, Stop};
 use crate::descriptors::field_vtype;
 use crate::env::Env;
 use crate::letters::push;
-use crate::members::{Member, field_at, is_guarded_field, is_own_field, protected_test};
+use crate::members::{NamedMember, field_at, is_guarded_field, is_own_field, protected_test};
 use crate::operands::{drop_items, object, operands_pass, took};
-use class_record::Ask;
 use sqlite_items::Items;
 use std::alloc::Global;
-use verify_types::{TypeStack, VType};
+use verify_rules::{Ask, Cause, Stop, TypeStack, VType};
 
 // The object is compared with the class that is named, then the test of a protected field.
 fn field_read(
     alloc: Global,
     asks: &mut Items<Ask>,
     e: &Env<'_>,
-    m: &Member<'_>,
+    m: &NamedMember<'_>,
     t: VType,
     stack: &mut TypeStack,
 ) -> Result<(), Stop>
@@ -40,7 +38,7 @@ fn is_unfinished_this(object: Option<&VType>) -> bool
 }
 
 // A constructor may store into a field that its class declares before it has called another one.
-fn is_early_store(e: &Env<'_>, m: &Member<'_>, object: Option<&VType>) -> bool
+fn is_early_store(e: &Env<'_>, m: &NamedMember<'_>, object: Option<&VType>) -> bool
     ensures { result ≡ calls.is_early_store e.now m.now (option_copied object.entry) }
 {
     is_unfinished_this(object) && (e.is_constructor() && is_own_field(e, m))
@@ -50,7 +48,7 @@ fn field_written(
     alloc: Global,
     asks: &mut Items<Ask>,
     e: &Env<'_>,
-    m: &Member<'_>,
+    m: &NamedMember<'_>,
     t: VType,
     stack: &mut TypeStack,
 ) -> Result<(), Stop>
@@ -71,7 +69,7 @@ fn field_by(
     asks: &mut Items<Ask>,
     e: &Env<'_>,
     op: u8,
-    m: &Member<'_>,
+    m: &NamedMember<'_>,
     t: VType,
     stack: &mut TypeStack,
 ) -> Result<(), Stop>
@@ -91,7 +89,7 @@ fn field_by(
 
 /// getstatic, putstatic, getfield and putfield. The type of the field is that of its descriptor, and an object is one of the
 /// class that is named.
-#[tactic(auto, unfolding(crate::specs::Calls::field_row))]
+#[tactic(auto, unfolding(verify_rules::specs::Calls::field_row))]
 pub(crate) fn field_row(
     alloc: Global,
     asks: &mut Items<Ask>,

@@ -1,22 +1,23 @@
 //! The frame that a method begins with (JVMS 4.10.1.6).
 ghost use Rattle.std.specs.Prelude.{◌≡◌, IfOk, cond};
-ghost use Rattle.class_tree.specs.Flags.{has};
-ghost use Rattle.verify_types.specs.declared.types.VType.TheVariants.{UninitializedThis};
-ghost use Rattle.type_verifier.specs.Env.{this_type};
-ghost use Rattle.type_verifier.specs.Methods.{begins_unfinished, own_object, first_locals, frame_of_locals, first_frame};
+ghost use Rattle.class_tree.specs.Flags.{is_static};
+ghost use Rattle.verify_rules.specs.declared.types.VType.TheVariants.{UninitializedThis};
+ghost use Rattle.verify_rules.specs.Env.{this_type};
+ghost use Rattle.verify_rules.specs.Methods.{begins_unfinished, own_object, first_locals, frame_of_locals, first_frame};
 
 use crate::descriptors::vtypes;
 use crate::env::Env;
-use class_tree::has_flag;
+use class_tree::is_static;
 use jsa_names::MethodType;
 use sqlite_items::Items;
 use std::alloc::{AllocError, Global};
-use verify_types::{Frame, TypeStack, VType, filled, units_within};
+use verify_rules::{Frame, TypeStack, VType, units_within};
+use verify_types::filled;
 
-fn is_static(e: &Env<'_>) -> bool
-    ensures { result ≡ has e.now.method.flags 0x0008 }
+fn is_static_method(e: &Env<'_>) -> bool
+    ensures { result ≡ is_static e.now.method.flags }
 {
-    has_flag(e.method.flags, 0x0008)
+    is_static(e.method.flags)
 }
 
 // In a constructor `this` waits for another constructor, except in that of java/lang/Object.
@@ -41,7 +42,7 @@ fn own_object(alloc: Global, e: &Env<'_>) -> Result<Items<VType>, AllocError>
     ensures { IfOk result (λ locals. locals ≡ own_object e.now) }
 {
     let mut locals = Items::new(alloc);
-    if is_static(e) {
+    if is_static_method(e) {
         return Ok(locals);
     }
     locals.push(own_type(alloc, e)?)?;
@@ -71,7 +72,7 @@ fn frame_of_locals(
         return Ok(None);
     }
     let locals = filled(alloc, e.code.locals, locals)?;
-    let this_uninit = !is_static(e) && begins_unfinished(e);
+    let this_uninit = !is_static_method(e) && begins_unfinished(e);
     Ok(Some(Frame {
         locals,
         stack: TypeStack::new(alloc),
@@ -81,7 +82,7 @@ fn frame_of_locals(
 
 /// The frame that a method begins with: `this`, unless it is static, and its parameters. `None` where its descriptor is none,
 /// or where these have no room.
-#[tactic(auto, unfolding(crate::specs::Methods::first_frame))]
+#[tactic(auto, unfolding(verify_rules::specs::Methods::first_frame))]
 pub(crate) fn first_frame(alloc: Global, e: &Env<'_>) -> Result<Option<Frame>, AllocError>
     ensures { IfOk result (λ f. f ≡ first_frame e.now) }
 {

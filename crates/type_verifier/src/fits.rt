@@ -1,19 +1,17 @@
 //! Frames that fit declared ones, and the questions that it takes (JVMS 4.10.1.4).
 ghost use Rattle.std.specs.Prelude.{◌≡◌, [], ◌∷◌, ◌||◌, length, not};
-ghost use Rattle.verify_types.specs.declared.types.VType.TheVariants as types;
-ghost use Rattle.type_verifier.specs.declared.cause.Cause.TheVariants.{Length, Unfinished};
-ghost use Rattle.type_verifier.specs.Asking.{Checked, and_then, test};
-ghost use Rattle.type_verifier.specs.Fits.{locals_fit, operands_fit, stacks_fit, frame_fits, caught};
+ghost use Rattle.verify_rules.specs.declared.types.VType.TheVariants as types;
+ghost use Rattle.verify_rules.specs.declared.cause.Cause.TheVariants.{Length, Unfinished};
+ghost use Rattle.verify_rules.specs.Asking.{Checked, and_then, test};
+ghost use Rattle.verify_rules.specs.Fits.{locals_fit, operands_fit, stacks_fit, frame_fits, caught};
 
 use crate::assigning::{assign, local_assign, name_assign, test};
-use crate::cause::{Cause, Stop};
-use class_record::Ask;
 use sqlite_items::Items;
 use std::alloc::Global;
-use verify_types::{Frame, TypeStack, VType, item};
+use verify_rules::{Ask, Cause, Frame, Stop, TypeStack, VType, item};
 
 /// Local by local, from 0 on.
-#[tactic(auto, unfolding(crate::specs::Fits::locals_fit))]
+#[tactic(auto, unfolding(verify_rules::specs::Fits::locals_fit))]
 pub(crate) fn locals_fit(
     alloc: Global,
     asks: &mut Items<Ask>,
@@ -38,7 +36,7 @@ pub(crate) fn locals_fit(
 }
 
 // Operands of two stacks of one length, from the deepest on.
-#[tactic(auto, unfolding(crate::specs::Fits::operands_fit))]
+#[tactic(auto, unfolding(verify_rules::specs::Fits::operands_fit))]
 fn operands_fit(
     alloc: Global,
     asks: &mut Items<Ask>,
@@ -55,7 +53,7 @@ fn operands_fit(
 }
 
 /// Stacks of one length, from the deepest operand on.
-#[tactic(auto, unfolding(crate::specs::Fits::stacks_fit))]
+#[tactic(auto, unfolding(verify_rules::specs::Fits::stacks_fit))]
 pub(crate) fn stacks_fit(
     alloc: Global,
     asks: &mut Items<Ask>,
@@ -78,7 +76,7 @@ fn keeps_unfinished(from: &Frame, to: &Frame) -> Result<(), Stop>
 }
 
 /// A frame to a declared one: the locals, the stacks, and whether a constructor was called on `this`.
-#[tactic(auto, unfolding(crate::specs::Fits::frame_fits))]
+#[tactic(auto, unfolding(verify_rules::specs::Fits::frame_fits))]
 pub(crate) fn frame_fits(
     alloc: Global,
     asks: &mut Items<Ask>,
@@ -93,7 +91,7 @@ pub(crate) fn frame_fits(
 }
 
 // A stack with a throwable alone.
-#[tactic(auto, unfolding(crate::specs::Fits::stacks_fit, crate::specs::Fits::operands_fit))]
+#[tactic(auto, unfolding(verify_rules::specs::Fits::stacks_fit, verify_rules::specs::Fits::operands_fit))]
 fn throwable_fits(
     alloc: Global,
     asks: &mut Items<Ask>,
@@ -110,7 +108,7 @@ fn throwable_fits(
 
 /// The frame in which a handler of a class begins, to a declared one: that before the instruction, with the throwable alone
 /// on the stack (JVMS 4.10.1.6).
-#[tactic(auto, unfolding(crate::specs::Fits::frame_fits))]
+#[tactic(auto, unfolding(verify_rules::specs::Fits::frame_fits))]
 pub(crate) fn caught_fits(
     alloc: Global,
     asks: &mut Items<Ask>,

@@ -4,7 +4,7 @@ use crate::fits::{caught_fits, frame_fits};
 use crate::test_rows::wrong_rows;
 use sqlite_items::Items;
 use std::alloc::{AllocError, Global};
-use verify_types::{Frame, TypeStack, VType};
+use verify_rules::{Frame, TypeStack, VType};
 
 // A frame, the one that it is to fit, the answer, and the questions. A frame has its locals, its stack with the top last,
 // and `+` where no constructor was called on `this`.

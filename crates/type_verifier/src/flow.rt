@@ -3,22 +3,20 @@ ghost use Rattle.std.specs.Prelude.{◌≡◌, pos, ◌+ℤ◌, length, IfOk};
 ghost use Rattle.std.specs.List.{list_any};
 ghost use Rattle.std.specs.Option.{option_copied, option_map};
 ghost use Rattle.jsa_ops.specs.Instruction.{shown};
-ghost use Rattle.type_verifier.specs.Asking.{Checked, Did, each};
-ghost use Rattle.type_verifier.specs.Fits.{caught};
-ghost use Rattle.type_verifier.specs.Walking.{first_distance, first_pair, kept_before, handled_from, leads_from};
-ghost use Rattle.type_verifier.specs.Flow.{place_of, declared_if, fits_some, target_fits, target_distances, distances, pair_distances, holds, caught_class, handled, falls_through, fits_if_declared, is_declared, flows, step};
+ghost use Rattle.verify_rules.specs.Asking.{Checked, Did, each};
+ghost use Rattle.verify_rules.specs.Fits.{caught};
+ghost use Rattle.verify_rules.specs.Walking.{first_distance, first_pair, kept_before, handled_from, leads_from};
+ghost use Rattle.verify_rules.specs.Flow.{place_of, declared_if, fits_some, target_fits, target_distances, distances, pair_distances, holds, caught_class, handled, falls_through, fits_if_declared, is_declared, flows, step};
 
-use crate::cause::{Cause, Stop};
 use crate::declared::Declared;
 use crate::env::Env;
 use crate::fits::{caught_fits, frame_fits};
 use crate::rows::row;
-use class_record::Ask;
 use class_tree::{Handler, Pool};
 use jsa_ops::Instr;
 use sqlite_items::Items;
 use std::alloc::{AllocError, Global};
-use verify_types::{Frame, frame_copied};
+use verify_rules::{Ask, Cause, Frame, Stop, frame_copied};
 
 // ---- targets
 
@@ -56,7 +54,7 @@ fn declared_if(declared: &Declared, place: Option<usize>) -> Option<&Frame>
     }
 }
 
-#[tactic(auto, unfolding(crate::specs::Flow::target_fits))]
+#[tactic(auto, unfolding(verify_rules::specs::Flow::target_fits))]
 fn target_fits(
     alloc: Global,
     asks: &mut Items<Ask>,
@@ -138,7 +136,7 @@ fn pair_distances_fit(
 }
 
 // All targets of an instruction, a switch's default first.
-#[tactic(auto, unfolding(crate::specs::Asking::each))]
+#[tactic(auto, unfolding(verify_rules::specs::Asking::each))]
 fn targets_fit(
     alloc: Global,
     asks: &mut Items<Ask>,
@@ -207,7 +205,7 @@ fn throwable_fits(
 }
 
 // The frame before an instruction of a handler's range, with the throwable alone on its stack, to the handler's frame.
-#[tactic(auto, unfolding(crate::specs::Flow::handled))]
+#[tactic(auto, unfolding(verify_rules::specs::Flow::handled))]
 fn handled(
     alloc: Global,
     asks: &mut Items<Ask>,
@@ -291,7 +289,7 @@ fn is_declared(asks: &mut Items<Ask>, to: Option<&Frame>) -> Result<(), Stop>
     }
 }
 
-#[tactic(auto, unfolding(crate::specs::Flow::flows))]
+#[tactic(auto, unfolding(verify_rules::specs::Flow::flows))]
 fn flows(
     alloc: Global,
     asks: &mut Items<Ask>,
@@ -359,7 +357,7 @@ fn handled_from(
 }
 
 // Where an instruction leads, from the frame that was kept before it and the frame after it.
-#[tactic(auto, unfolding(crate::specs::Walking::leads_from))]
+#[tactic(auto, unfolding(verify_rules::specs::Walking::leads_from))]
 fn leads_from(
     alloc: Global,
     asks: &mut Items<Ask>,

@@ -1,13 +1,10 @@
 //! Types by the letters of instructions, and what instructions take and put that move such types alone (JVMS 2.11.1, 6.5).
 ghost use Rattle.std.specs.Prelude.{◌≡◌, Some, None};
-ghost use Rattle.type_verifier.specs.declared.letter.Letter.TheVariants.{Int};
-ghost use Rattle.type_verifier.specs.Causes.{Does};
-ghost use Rattle.type_verifier.specs.Letters.{is_reference, is_object_type, is_of, letter_of, is_wide_letter, type_of_letter, pop_letter, pop_if, push, push_if, moved, effect, binary, unary, conversion, effect_of};
+ghost use Rattle.verify_rules.specs.declared.letter.Letter.TheVariants.{Int};
+ghost use Rattle.verify_rules.specs.Causes.{Does};
+ghost use Rattle.verify_rules.specs.Letters.{is_reference, is_object_type, is_of, letter_of, is_wide_letter, type_of_letter, pop_letter, pop_if, push, push_if, moved, effect, binary, unary, conversion, effect_of};
 
-use crate::cause::{Cause, Stop};
-use crate::effect::Effect;
-use crate::letter::Letter;
-use verify_types::{TypeStack, VType};
+use verify_rules::{Cause, Effect, Letter, Stop, TypeStack, VType};
 
 /// Whether a type is null, an object or an array, with or without its constructor.
 pub(crate) fn is_reference(t: &VType) -> bool
@@ -137,7 +134,7 @@ fn push_if(room: u16, letter: Option<Letter>, stack: &mut TypeStack) -> Result<(
 }
 
 /// Takes and puts what an instruction takes and puts.
-#[tactic(auto, unfolding(crate::specs::Letters::moved))]
+#[tactic(auto, unfolding(verify_rules::specs::Letters::moved))]
 pub(crate) fn moved(room: u16, e: Effect, stack: &mut TypeStack) -> Result<(), Stop>
     ensures { Does (moved room e stack.old) result stack.new }
 {
@@ -195,7 +192,7 @@ fn comparison(letter: Letter) -> Effect
 }
 
 // The conversions, from i2l on.
-#[tactic(auto, unfolding(crate::specs::Letters::conversion))]
+#[tactic(auto, unfolding(verify_rules::specs::Letters::conversion))]
 fn conversion(op: u8) -> Effect
     ensures { result ≡ conversion op }
 {
@@ -217,7 +214,7 @@ fn conversion(op: u8) -> Effect
 }
 
 /// What nop, a constant, an operator, a conversion or a comparison takes and puts. `None` for other opcodes.
-#[tactic(auto, unfolding(crate::specs::Letters::effect_of))]
+#[tactic(auto, unfolding(verify_rules::specs::Letters::effect_of))]
 pub(crate) fn effect_of(op: u8) -> Option<Effect>
     ensures { result ≡ effect_of op }
 {

@@ -6,15 +6,12 @@ mod assigning;
 #[cfg(test)]
 mod assigning_tests;
 mod calls;
-mod cause;
-mod checking;
 mod classes;
 #[cfg(test)]
 mod classes_tests;
 mod constructors;
 mod declared;
 mod descriptors;
-mod effect;
 mod env;
 mod fields;
 mod first_frame;
@@ -23,7 +20,6 @@ mod fits;
 mod fits_tests;
 mod flow;
 mod laws;
-mod letter;
 mod letters;
 mod locals;
 mod members;
@@ -41,8 +37,6 @@ mod stack_forms_tests;
 #[cfg(test)]
 mod test_rows;
 
-pub use cause::Cause;
-pub use checking::{Checked, Place};
 pub use classes::check_class;
 pub use laws::{
     frames_stand, methods_are_refused, questions_are_in_order, some_classes_ask_nothing,

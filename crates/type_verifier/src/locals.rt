@@ -1,18 +1,16 @@
 //! Loads, stores and iinc (JVMS 4.10.1.7).
 ghost use Rattle.std.specs.Prelude.{◌≡◌, ◌≤◌, ◌<◌, length, slice_get};
-ghost use Rattle.verify_types.specs.Frames.{is_wide};
-ghost use Rattle.type_verifier.specs.Causes.{Does};
-ghost use Rattle.type_verifier.specs.Locals.{loaded, is_wide_in, cut_before, set_local, last_of, stored, counted};
+ghost use Rattle.verify_rules.specs.Frames.{is_wide};
+ghost use Rattle.verify_rules.specs.Causes.{Does};
+ghost use Rattle.verify_rules.specs.Locals.{loaded, is_wide_in, cut_before, set_local, last_of, stored, counted};
 
-use crate::cause::{Cause, Stop};
-use crate::letter::Letter;
 use crate::letters::{is_of, is_wide_letter, push};
 use sqlite_items::Items;
 use std::alloc::Global;
-use verify_types::{Frame, VType, copied};
+use verify_rules::{Cause, Frame, Letter, Stop, VType, copied};
 
 /// Puts the type of a local on top of the stack.
-#[tactic(auto, unfolding(crate::specs::Locals::loaded))]
+#[tactic(auto, unfolding(verify_rules::specs::Locals::loaded))]
 pub(crate) fn loaded(
     alloc: Global,
     room: u16,
@@ -73,7 +71,7 @@ fn cut_before(locals: &mut Items<VType>, k: u16)
 }
 
 // A local gets a type. The second slot of a wide one is Top.
-#[tactic(auto, unfolding(crate::specs::Locals::set_local))]
+#[tactic(auto, unfolding(verify_rules::specs::Locals::set_local))]
 fn set_local(locals: &mut Items<VType>, k: u16, t: VType, wide: bool)
     requires { last_of k wide < length locals.old }
     ensures { locals.new ≡ set_local locals.old k t wide }
@@ -93,7 +91,7 @@ fn last_of(k: u16, wide: bool) -> usize
 }
 
 /// Takes a type of the letter off the stack and puts it into a local.
-#[tactic(auto, unfolding(crate::specs::Locals::stored))]
+#[tactic(auto, unfolding(verify_rules::specs::Locals::stored))]
 pub(crate) fn stored(letter: Letter, k: u16, frame: &mut Frame) -> Result<(), Stop>
     ensures { Does (stored letter k frame.old) result frame.new }
 {
@@ -112,7 +110,7 @@ pub(crate) fn stored(letter: Letter, k: u16, frame: &mut Frame) -> Result<(), St
 }
 
 /// Tests that a local holds an int, which iinc changes.
-#[tactic(auto, unfolding(crate::specs::Locals::counted))]
+#[tactic(auto, unfolding(verify_rules::specs::Locals::counted))]
 pub(crate) fn counted(k: u16, frame: &Frame) -> Result<(), Stop>
     ensures { Does (counted k frame.now) result frame.now }
 {

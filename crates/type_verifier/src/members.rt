@@ -4,31 +4,31 @@ ghost use Rattle.std.specs.List.{list_any};
 ghost use Rattle.std.specs.Option.{option_copied};
 ghost use Rattle.std.specs.Str.{bytes_eq};
 ghost use Rattle.class_tree.specs.Links as links;
-ghost use Rattle.type_verifier.specs.Asking.{Checked};
-ghost use Rattle.type_verifier.specs.Members as members;
+ghost use Rattle.verify_rules.specs.Asking.{Checked};
+ghost use Rattle.verify_rules.specs.Members as members;
 
 use crate::assigning::{assign, is_array};
-use crate::cause::{Cause, Stop};
 use crate::env::Env;
-use class_record::{Ask, ClassRecord, FieldRecord, MethodRecord};
-use class_tree::{ClassTree, FieldTree, Pool, PoolEntry, has_flag, is_clinit, is_init};
+use class_tree::{
+    ClassTree, FieldTree, Pool, PoolEntry, is_clinit, is_init, is_protected, is_static,
+};
 use loader_rules::same_package;
 use sqlite_items::{Items, at};
 use std::alloc::Global;
 use std::marker::Model;
-use verify_types::VType;
+use verify_rules::{Ask, Cause, Member, Stop, Superclass, VType};
 
 /// A field or a method by its class, its name and its descriptor (JVMS 4.4.2).
 #[derive(Drop)]
-pub(crate) struct Member<'a> {
+pub(crate) struct NamedMember<'a> {
     /// The name of the class, or the descriptor of an array.
     pub(crate) class: &'a [u8],
     pub(crate) name: &'a [u8],
     pub(crate) desc: &'a [u8],
 }
 
-impl<'a> Model for Member<'a> {
-    ghost use Rattle.type_verifier.specs.Members.{Member as NamedMember};
+impl<'a> Model for NamedMember<'a> {
+    ghost use Rattle.verify_rules.specs.Members.{NamedMember};
 
     ghost Value = { NamedMember };
 
@@ -43,7 +43,7 @@ pub(crate) struct Signature<'a> {
 }
 
 impl<'a> Model for Signature<'a> {
-    ghost use Rattle.type_verifier.specs.Members.{Signature as NamedSignature};
+    ghost use Rattle.verify_rules.specs.Members.{Signature as NamedSignature};
 
     ghost Value = { NamedSignature };
 
@@ -52,7 +52,7 @@ impl<'a> Model for Signature<'a> {
 
 // ---- what the pool says
 
-#[tactic(auto, unfolding(crate::specs::Members::signature_at))]
+#[tactic(auto, unfolding(verify_rules::specs::Members::signature_at))]
 fn signature_at<'a>(pool: &'a Pool, k: u16) -> Option<Signature<'a>>
     ensures { result ≡ members.signature_at pool.now k }
 {
@@ -68,8 +68,8 @@ fn signature_at<'a>(pool: &'a Pool, k: u16) -> Option<Signature<'a>>
     Some(Signature { name, desc })
 }
 
-#[tactic(auto, unfolding(crate::specs::Members::member_of))]
-fn member_of<'a>(pool: &'a Pool, class: u16, member: u16) -> Option<Member<'a>>
+#[tactic(auto, unfolding(verify_rules::specs::Members::member_of))]
+fn member_of<'a>(pool: &'a Pool, class: u16, member: u16) -> Option<NamedMember<'a>>
     ensures { result ≡ members.member_of pool.now class member }
 {
     let Some(class) = pool.class_name(class) else {
@@ -78,7 +78,7 @@ fn member_of<'a>(pool: &'a Pool, class: u16, member: u16) -> Option<Member<'a>>
     let Some(signature) = signature_at(pool, member) else {
         return None;
     };
-    Some(Member {
+    Some(NamedMember {
         class,
         name: signature.name,
         desc: signature.desc,
@@ -86,8 +86,8 @@ fn member_of<'a>(pool: &'a Pool, class: u16, member: u16) -> Option<Member<'a>>
 }
 
 /// The field at an index of the pool. `None` where none stands there.
-#[tactic(auto, unfolding(crate::specs::Members::field_at))]
-pub(crate) fn field_at<'a>(pool: &'a Pool, k: u16) -> Option<Member<'a>>
+#[tactic(auto, unfolding(verify_rules::specs::Members::field_at))]
+pub(crate) fn field_at<'a>(pool: &'a Pool, k: u16) -> Option<NamedMember<'a>>
     ensures { result ≡ members.field_at pool.now k }
 {
     let Some(PoolEntry::Fieldref(class, member)) = at(pool.entries(), usize::from(k)) else {
@@ -97,8 +97,8 @@ pub(crate) fn field_at<'a>(pool: &'a Pool, k: u16) -> Option<Member<'a>>
 }
 
 /// The method of a class at an index of the pool. `None` where none stands there.
-#[tactic(auto, unfolding(crate::specs::Members::method_at))]
-pub(crate) fn method_at<'a>(pool: &'a Pool, k: u16) -> Option<Member<'a>>
+#[tactic(auto, unfolding(verify_rules::specs::Members::method_at))]
+pub(crate) fn method_at<'a>(pool: &'a Pool, k: u16) -> Option<NamedMember<'a>>
     ensures { result ≡ members.method_at pool.now k }
 {
     let Some(PoolEntry::Methodref(class, member)) = at(pool.entries(), usize::from(k)) else {
@@ -108,8 +108,8 @@ pub(crate) fn method_at<'a>(pool: &'a Pool, k: u16) -> Option<Member<'a>>
 }
 
 /// The method of an interface at an index of the pool. `None` where none stands there.
-#[tactic(auto, unfolding(crate::specs::Members::interface_method_at))]
-pub(crate) fn interface_method_at<'a>(pool: &'a Pool, k: u16) -> Option<Member<'a>>
+#[tactic(auto, unfolding(verify_rules::specs::Members::interface_method_at))]
+pub(crate) fn interface_method_at<'a>(pool: &'a Pool, k: u16) -> Option<NamedMember<'a>>
     ensures { result ≡ members.interface_method_at pool.now k }
 {
     let Some(PoolEntry::InterfaceMethodref(class, member)) = at(pool.entries(), usize::from(k))
@@ -120,7 +120,7 @@ pub(crate) fn interface_method_at<'a>(pool: &'a Pool, k: u16) -> Option<Member<'
 }
 
 /// The name and the descriptor of the call of an invokedynamic (JVMS 4.4.10). `None` where no call stands there.
-#[tactic(auto, unfolding(crate::specs::Members::call_site_at))]
+#[tactic(auto, unfolding(verify_rules::specs::Members::call_site_at))]
 pub(crate) fn call_site_at<'a>(pool: &'a Pool, k: u16) -> Option<Signature<'a>>
     ensures { result ≡ members.call_site_at pool.now k }
 {
@@ -131,8 +131,8 @@ pub(crate) fn call_site_at<'a>(pool: &'a Pool, k: u16) -> Option<Signature<'a>>
 }
 
 /// The method at an index of the pool, of a class, or from version 52 on of an interface too (JVMS 4.9.1).
-#[tactic(auto, unfolding(crate::specs::Members::any_method_at))]
-pub(crate) fn any_method_at<'a>(tree: &'a ClassTree, k: u16) -> Option<Member<'a>>
+#[tactic(auto, unfolding(verify_rules::specs::Members::any_method_at))]
+pub(crate) fn any_method_at<'a>(tree: &'a ClassTree, k: u16) -> Option<NamedMember<'a>>
     ensures { result ≡ members.any_method_at tree.now k }
 {
     if let Some(m) = method_at(&tree.pool, k) {
@@ -153,9 +153,15 @@ pub(crate) fn is_plain_method(name: &[u8]) -> bool
 
 // ---- protected members of superclasses
 
+fn is_named(c: &Superclass<'_>, name: &[u8]) -> bool
+    ensures { result ≡ bytes_eq c.now.name name.now }
+{
+    c.name == name
+}
+
 // The superclasses from the one of a name up.
-#[tactic(auto, unfolding(crate::specs::Members::from_named))]
-fn from_named<'a>(name: &[u8], supers: &'a [ClassRecord]) -> &'a [ClassRecord]
+#[tactic(auto, unfolding(verify_rules::specs::Members::from_named))]
+fn from_named<'a>(name: &[u8], supers: &'a [Superclass<'a>]) -> &'a [Superclass<'a>]
     ensures { result.now ≡ members.from_named name.now supers.now }
 {
     let mut rest = supers;
@@ -163,70 +169,68 @@ fn from_named<'a>(name: &[u8], supers: &'a [ClassRecord]) -> &'a [ClassRecord]
         let [c, more @ ..] = rest else {
             return rest;
         };
-        if c.name.as_slice() == name {
+        if is_named(c, name) {
             return rest;
         }
         rest = more;
     }
 }
 
-fn is_the_field(m: &Member<'_>, f: &FieldRecord) -> bool
-    ensures { result ≡ members.is_the_field m.now f.now }
+fn is_the_member(m: &NamedMember<'_>, f: &Member<'_>) -> bool
+    ensures { result ≡ members.is_the_member m.now f.now }
 {
-    f.name.as_slice() == m.name && f.desc.as_slice() == m.desc
+    f.name == m.name && f.desc == m.desc
 }
 
-fn is_the_method(m: &Member<'_>, f: &MethodRecord) -> bool
-    ensures { result ≡ members.is_the_method m.now f.now }
+fn flags_of(f: &Member<'_>) -> u16
+    ensures { result ≡ f.now.flags }
 {
-    f.name.as_slice() == m.name && f.desc.as_slice() == m.desc
+    f.flags
+}
+
+// The flags of the first of these members that is the one named.
+fn first_flags(m: &NamedMember<'_>, all: &[Member<'_>]) -> Option<u16>
+    ensures { result ≡ members.first_flags m.now all.now }
+{
+    let mut rest = all;
+    loop {
+        let [f, more @ ..] = rest else {
+            return None;
+        };
+        if is_the_member(m, f) {
+            return Some(flags_of(f));
+        }
+        rest = more;
+    }
 }
 
 // The flags of the field, where the class declares it.
-fn field_flags(m: &Member<'_>, c: &ClassRecord) -> Option<u16>
+fn field_flags(m: &NamedMember<'_>, c: &Superclass<'_>) -> Option<u16>
     ensures { result ≡ members.field_flags m.now c.now }
 {
-    let mut rest = c.fields.as_slice();
-    loop {
-        let [f, more @ ..] = rest else {
-            return None;
-        };
-        if is_the_field(m, f) {
-            return Some(f.flags);
-        }
-        rest = more;
-    }
+    first_flags(m, c.fields.as_slice())
 }
 
 // The flags of the method, where the class declares it.
-fn method_flags(m: &Member<'_>, c: &ClassRecord) -> Option<u16>
+fn method_flags(m: &NamedMember<'_>, c: &Superclass<'_>) -> Option<u16>
     ensures { result ≡ members.method_flags m.now c.now }
 {
-    let mut rest = c.methods.as_slice();
-    loop {
-        let [f, more @ ..] = rest else {
-            return None;
-        };
-        if is_the_method(m, f) {
-            return Some(f.flags);
-        }
-        rest = more;
-    }
+    first_flags(m, c.methods.as_slice())
 }
 
 // Whether a member of a superclass with these flags is protected, not static, and of another run-time package than the
 // class.
-fn is_far_protected(e: &Env<'_>, c: &ClassRecord, flags: u16) -> bool
+fn is_far_protected(e: &Env<'_>, c: &Superclass<'_>, flags: u16) -> bool
     ensures { result ≡ members.is_far_protected e.now c.now flags }
 {
-    has_flag(flags, 0x0004)
-        && !has_flag(flags, 0x0008)
-        && !same_package(e.this_name(), e.loader, c.name.as_slice(), c.loader)
+    is_protected(flags)
+        && !is_static(flags)
+        && !same_package(e.this_name(), e.loader, c.name, c.loader)
 }
 
 // Whether the first of these classes that declares the field has it protected, in another run-time package.
-#[tactic(auto, unfolding(crate::specs::Members::is_far_in))]
-fn is_far_field(e: &Env<'_>, m: &Member<'_>, supers: &[ClassRecord]) -> bool
+#[tactic(auto, unfolding(verify_rules::specs::Members::is_far_in))]
+fn is_far_field(e: &Env<'_>, m: &NamedMember<'_>, supers: &[Superclass<'_>]) -> bool
     ensures { result ≡ members.is_far_in e.now (members.field_flags m.now) supers.now }
 {
     let mut rest = supers;
@@ -242,8 +246,8 @@ fn is_far_field(e: &Env<'_>, m: &Member<'_>, supers: &[ClassRecord]) -> bool
 }
 
 // Whether the first of these classes that declares the method has it protected, in another run-time package.
-#[tactic(auto, unfolding(crate::specs::Members::is_far_in))]
-fn is_far_method(e: &Env<'_>, m: &Member<'_>, supers: &[ClassRecord]) -> bool
+#[tactic(auto, unfolding(verify_rules::specs::Members::is_far_in))]
+fn is_far_method(e: &Env<'_>, m: &NamedMember<'_>, supers: &[Superclass<'_>]) -> bool
     ensures { result ≡ members.is_far_in e.now (members.method_flags m.now) supers.now }
 {
     let mut rest = supers;
@@ -259,14 +263,14 @@ fn is_far_method(e: &Env<'_>, m: &Member<'_>, supers: &[ClassRecord]) -> bool
 }
 
 /// Whether a field that is named through a superclass is protected in another run-time package (JVMS 4.10.1.8).
-#[tactic(auto, unfolding(crate::specs::Members::is_guarded_field))]
-pub(crate) fn is_guarded_field(e: &Env<'_>, m: &Member<'_>) -> bool
+#[tactic(auto, unfolding(verify_rules::specs::Members::is_guarded_field))]
+pub(crate) fn is_guarded_field(e: &Env<'_>, m: &NamedMember<'_>) -> bool
     ensures { result ≡ members.is_guarded_field e.now m.now }
 {
     is_far_field(e, m, from_named(m.class, e.supers))
 }
 
-fn first_only(supers: &[ClassRecord]) -> &[ClassRecord]
+fn first_only<'a>(supers: &'a [Superclass<'a>]) -> &'a [Superclass<'a>]
     ensures { result.now ≡ members.first_only supers.now }
 {
     if supers.len() < 2 {
@@ -276,7 +280,7 @@ fn first_only(supers: &[ClassRecord]) -> &[ClassRecord]
 }
 
 // The superclasses in which a method is looked for: a constructor in the one that is named alone.
-fn declaring<'a>(e: &Env<'a>, m: &Member<'_>) -> &'a [ClassRecord]
+fn declaring<'a>(e: &Env<'a>, m: &NamedMember<'_>) -> &'a [Superclass<'a>]
     ensures { result.now ≡ (if links.is_init m.now.name then members.first_only (members.from_named m.now.class e.now.supers) else members.from_named m.now.class e.now.supers) }
 {
     let named = from_named(m.class, e.supers);
@@ -288,8 +292,8 @@ fn declaring<'a>(e: &Env<'a>, m: &Member<'_>) -> &'a [ClassRecord]
 
 /// Whether a method that is named through a superclass is protected in another run-time package (JVMS 4.10.1.8). A
 /// constructor is that of the class named alone.
-#[tactic(auto, unfolding(crate::specs::Members::is_guarded_method))]
-pub(crate) fn is_guarded_method(e: &Env<'_>, m: &Member<'_>) -> bool
+#[tactic(auto, unfolding(verify_rules::specs::Members::is_guarded_method))]
+pub(crate) fn is_guarded_method(e: &Env<'_>, m: &NamedMember<'_>) -> bool
     ensures { result ≡ members.is_guarded_method e.now m.now }
 {
     is_far_method(e, m, declaring(e, m))
@@ -311,7 +315,7 @@ fn object_is_own(
 }
 
 /// Where a member is guarded, its object is one of the class itself.
-#[tactic(auto, unfolding(crate::specs::Members::protected_test))]
+#[tactic(auto, unfolding(verify_rules::specs::Members::protected_test))]
 pub(crate) fn protected_test(
     alloc: Global,
     asks: &mut Items<Ask>,
@@ -337,19 +341,19 @@ fn is_array_object(object: Option<&VType>) -> bool
 }
 
 // Whether the test of a method is due for an object: `clone` of an array is free.
-fn is_tested(e: &Env<'_>, m: &Member<'_>, object: Option<&VType>) -> bool
+fn is_tested(e: &Env<'_>, m: &NamedMember<'_>, object: Option<&VType>) -> bool
     ensures { result ≡ (members.is_guarded_method e.now m.now && not (bytes_eq m.now.name (codes "clone") && members.is_array_object (option_copied object.entry))) }
 {
     is_guarded_method(e, m) && !(m.name == b"clone".as_slice() && is_array_object(object))
 }
 
 /// The same for a method, of which `clone` of an array is free.
-#[tactic(auto, unfolding(crate::specs::Members::method_test))]
+#[tactic(auto, unfolding(verify_rules::specs::Members::method_test))]
 pub(crate) fn method_test(
     alloc: Global,
     asks: &mut Items<Ask>,
     e: &Env<'_>,
-    m: &Member<'_>,
+    m: &NamedMember<'_>,
     object: Option<&VType>,
 ) -> Result<(), Stop>
     ensures { Checked (members.method_test e.now m.now (option_copied object.entry)) asks.old asks.new result }
@@ -360,13 +364,13 @@ pub(crate) fn method_test(
 
 // ---- fields of the class itself
 
-fn is_declared_as(tree: &ClassTree, m: &Member<'_>, f: &FieldTree) -> bool
+fn is_declared_as(tree: &ClassTree, m: &NamedMember<'_>, f: &FieldTree) -> bool
     ensures { result ≡ members.is_declared_as tree.now m.now f.now }
 {
     tree.pool.is_text(f.name, m.name) && tree.pool.is_text(f.desc, m.desc)
 }
 
-fn declares(tree: &ClassTree, m: &Member<'_>) -> bool
+fn declares(tree: &ClassTree, m: &NamedMember<'_>) -> bool
     ensures { result ≡ list_any (members.is_declared_as tree.now m.now) tree.now.fields }
 {
     tree.fields
@@ -376,8 +380,8 @@ fn declares(tree: &ClassTree, m: &Member<'_>) -> bool
 }
 
 /// Whether the class itself declares the field that is named through it.
-#[tactic(auto, unfolding(crate::specs::Members::is_own_field))]
-pub(crate) fn is_own_field(e: &Env<'_>, m: &Member<'_>) -> bool
+#[tactic(auto, unfolding(verify_rules::specs::Members::is_own_field))]
+pub(crate) fn is_own_field(e: &Env<'_>, m: &NamedMember<'_>) -> bool
     ensures { result ≡ members.is_own_field e.now m.now }
 {
     m.class == e.this_name() && declares(e.tree, m)

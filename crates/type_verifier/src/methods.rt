@@ -4,24 +4,23 @@ ghost use Rattle.std.specs.Prelude.{◌≡◌, IfOk, OnOk, Some};
 ghost use Rattle.std.specs.List.{list_all};
 ghost use Rattle.std.specs.Option.{option_copied};
 ghost use Rattle.jsa_ops.specs.Instruction.{shown};
-ghost use Rattle.verify_types.specs.Places.{instructions};
-ghost use Rattle.type_verifier.specs.Asking.{Checked, Did, each};
-ghost use Rattle.type_verifier.specs.Flow.{declared_at, step};
-ghost use Rattle.type_verifier.specs.Walking.{Finds, frames_placed};
-ghost use Rattle.type_verifier.specs.Methods.{stand_at_starts, has_frame, is_placed, placed_frames, catches_throwable, catch_test, entered, frame_or, walked, typed_in, typed_from, method_found};
+ghost use Rattle.verify_rules.specs.Places.{instructions};
+ghost use Rattle.verify_rules.specs.Asking.{Checked, Did, each};
+ghost use Rattle.verify_rules.specs.Flow.{declared_at, step};
+ghost use Rattle.verify_rules.specs.Walking.{Finds, frames_placed};
+ghost use Rattle.verify_rules.specs.Methods.{stand_at_starts, has_frame, is_placed, placed_frames, catches_throwable, catch_test, entered, frame_or, walked, typed_in, typed_from, method_found};
 
 use crate::assigning::object_assign;
-use crate::cause::{Cause, Stop};
 use crate::declared::Declared;
 use crate::env::Env;
 use crate::first_frame::first_frame;
 use crate::flow::{fits_if_declared, step};
-use class_record::Ask;
 use class_tree::{Handler, Pool};
 use jsa_ops::Instr;
 use sqlite_items::Items;
 use std::alloc::{AllocError, Global};
-use verify_types::{Frame, Places, VerifyFault, frame_copied, frames_of};
+use verify_rules::{Ask, Cause, Frame, Stop, VerifyFault, frame_copied};
+use verify_types::{Places, frames_of};
 
 // ---- what is wrong of the method as a whole
 
@@ -75,7 +74,7 @@ fn frames_if_placed(
 }
 
 // The frames of a method that has none of these faults.
-#[tactic(auto, unfolding(crate::specs::Methods::placed_frames))]
+#[tactic(auto, unfolding(verify_rules::specs::Methods::placed_frames))]
 fn placed_frames(
     alloc: Global,
     e: &Env<'_>,
@@ -128,7 +127,7 @@ fn all_catch(
 }
 
 // The classes that are caught, in the order of the table; then the first frame to one that is declared at place 0.
-#[tactic(auto, unfolding(crate::specs::Methods::entered))]
+#[tactic(auto, unfolding(verify_rules::specs::Methods::entered))]
 fn entered(
     alloc: Global,
     asks: &mut Items<Ask>,
@@ -253,7 +252,7 @@ fn typed_from(
 }
 
 /// Types a method: the questions up to the first fault are added, and the place of that is given, if there is one.
-#[tactic(auto, unfolding(crate::specs::Methods::method_found))]
+#[tactic(auto, unfolding(verify_rules::specs::Methods::method_found))]
 pub(crate) fn method_found(
     alloc: Global,
     asks: &mut Items<Ask>,

@@ -3,20 +3,20 @@ ghost use Rattle.std.specs.Prelude.{◌≡◌, IfOk, codes};
 ghost use Rattle.std.specs.Option.{option_copied};
 ghost use Rattle.std.specs.List.{list_any};
 ghost use Rattle.class_tree.specs.WellFormed.{class_name};
-ghost use Rattle.verify_types.specs.declared.types.VType.TheVariants as types;
-ghost use Rattle.verify_types.specs.Types.{is_made_at};
-ghost use Rattle.type_verifier.specs.Causes.{Does};
-ghost use Rattle.type_verifier.specs.Objects.{constant_type, wide_constant_type, put_constant, constant_put, made, class_made, new_made, object_turned, cast_type, tested_type, cast, tested, monitored};
+ghost use Rattle.verify_rules.specs.declared.types.VType.TheVariants as types;
+ghost use Rattle.verify_rules.specs.Types.{is_made_at};
+ghost use Rattle.verify_rules.specs.Causes.{Does};
+ghost use Rattle.verify_rules.specs.Objects.{constant_type, wide_constant_type, put_constant, constant_put, made, class_made, new_made, object_turned, cast_type, tested_type, cast, tested, monitored};
 
 use crate::arrays::pop_object;
 use crate::assigning::is_array;
-use crate::cause::{Cause, Stop};
-use crate::letter::Letter;
 use crate::letters::{pop_letter, push};
 use class_tree::{Pool, PoolEntry};
 use sqlite_items::{Items, at};
 use std::alloc::{AllocError, Global};
-use verify_types::{Frame, TypeStack, Unfinished, VType, is_copy_of, item, turn_locals};
+use verify_rules::{
+    Cause, Frame, Letter, Stop, TypeStack, Unfinished, VType, is_copy_of, item, turn_locals,
+};
 
 // ---- ldc, ldc_w, ldc2_w
 
@@ -68,7 +68,7 @@ fn put_constant(room: u16, t: Option<VType>, stack: &mut TypeStack) -> Result<()
 }
 
 /// The row of ldc, ldc_w and ldc2_w.
-#[tactic(auto, unfolding(crate::specs::Objects::constant_put))]
+#[tactic(auto, unfolding(verify_rules::specs::Objects::constant_put))]
 pub(crate) fn constant_put(
     alloc: Global,
     room: u16,
@@ -118,7 +118,7 @@ fn make(alloc: Global, room: u16, place: u32, frame: &mut Frame) -> Result<(), S
 }
 
 /// The row of the `new` at a place of the code: of a class, and of no array.
-#[tactic(auto, unfolding(crate::specs::Objects::new_made))]
+#[tactic(auto, unfolding(verify_rules::specs::Objects::new_made))]
 pub(crate) fn new_made(
     alloc: Global,
     room: u16,
@@ -141,7 +141,7 @@ pub(crate) fn new_made(
 // ---- checkcast, instanceof, monitorenter, monitorexit
 
 /// The row of checkcast.
-#[tactic(auto, unfolding(crate::specs::Objects::cast))]
+#[tactic(auto, unfolding(verify_rules::specs::Objects::cast))]
 pub(crate) fn cast(
     alloc: Global,
     room: u16,
@@ -160,7 +160,7 @@ pub(crate) fn cast(
 }
 
 /// The row of instanceof.
-#[tactic(auto, unfolding(crate::specs::Objects::tested))]
+#[tactic(auto, unfolding(verify_rules::specs::Objects::tested))]
 pub(crate) fn tested(room: u16, pool: &Pool, k: u16, stack: &mut TypeStack) -> Result<(), Stop>
     ensures { Does (tested room pool.now k stack.old) result stack.new }
 {

@@ -1,18 +1,16 @@
 //! Operands of given types (JVMS 4.10.1.4).
 ghost use Rattle.std.specs.Prelude.{◌≡◌, ◌≤◌, [], length, drop, IfOk};
-ghost use Rattle.verify_types.specs.declared.types.VType.{VType};
-ghost use Rattle.type_verifier.specs.Asking.{Did, Checked};
-ghost use Rattle.type_verifier.specs.Calls as calls;
+ghost use Rattle.verify_rules.specs.declared.types.VType.{VType};
+ghost use Rattle.verify_rules.specs.Asking.{Did, Checked};
+ghost use Rattle.verify_rules.specs.Calls as calls;
 
 use crate::assigning::assign;
-use crate::cause::{Cause, Stop};
 use crate::descriptors::vtype;
 use crate::letters::push;
-use class_record::Ask;
 use jsa_names::MethodType;
 use sqlite_items::Items;
 use std::alloc::{AllocError, Global};
-use verify_types::{TypeStack, VType, item};
+use verify_rules::{Ask, Cause, Stop, TypeStack, VType, item};
 
 /// A class or an array as a type.
 pub(crate) fn object(alloc: Global, name: &[u8]) -> Result<VType, AllocError>

@@ -1,24 +1,21 @@
 //! athrow and returns (JVMS 4.10.1.9).
 ghost use Rattle.std.specs.Prelude.{◌≡◌, [], Some};
 ghost use Rattle.jsa_names.specs.Types.{field_shown};
-ghost use Rattle.type_verifier.specs.Asking.{Did};
-ghost use Rattle.type_verifier.specs.Calls as calls;
-ghost use Rattle.type_verifier.specs.Env.{own_type};
+ghost use Rattle.verify_rules.specs.Asking.{Did};
+ghost use Rattle.verify_rules.specs.Calls as calls;
+ghost use Rattle.verify_rules.specs.Env.{own_type};
 
-use crate::cause::{Cause, Stop};
 use crate::descriptors::vtype;
 use crate::env::Env;
-use crate::letter::Letter;
 use crate::letters::is_of;
 use crate::operands::{object, took};
-use class_record::Ask;
 use jsa_names::FieldType;
 use sqlite_items::Items;
 use std::alloc::Global;
-use verify_types::{Frame, TypeStack};
+use verify_rules::{Ask, Cause, Frame, Letter, Stop, TypeStack};
 
 /// athrow.
-#[tactic(auto, unfolding(crate::specs::Calls::thrown))]
+#[tactic(auto, unfolding(verify_rules::specs::Calls::thrown))]
 pub(crate) fn thrown(
     alloc: Global,
     asks: &mut Items<Ask>,
@@ -47,7 +44,7 @@ fn returned(
 }
 
 /// ireturn, lreturn, freturn, dreturn and areturn. The method's result has a type of the letter.
-#[tactic(auto, unfolding(crate::specs::Calls::return_row))]
+#[tactic(auto, unfolding(verify_rules::specs::Calls::return_row))]
 pub(crate) fn return_row(
     alloc: Global,
     asks: &mut Items<Ask>,
@@ -76,7 +73,7 @@ fn returns_nothing(e: &Env<'_>) -> bool
 }
 
 /// return. The method has no result, and a constructor has called another one.
-#[tactic(auto, unfolding(crate::specs::Calls::plain_return_row))]
+#[tactic(auto, unfolding(verify_rules::specs::Calls::plain_return_row))]
 pub(crate) fn plain_return_row(e: &Env<'_>, frame: &Frame) -> Result<(), Stop>
     ensures { Did (calls.plain_return_row e.now frame.now) [] [] result frame.now }
 {

@@ -1,11 +1,10 @@
 //! The typing row of each instruction (JVMS 4.10.1.9).
 ghost use Rattle.jsa_ops.specs.Instruction.{shown};
-ghost use Rattle.type_verifier.specs.Asking.{Did};
-ghost use Rattle.type_verifier.specs.Rows as rows;
+ghost use Rattle.verify_rules.specs.Asking.{Did};
+ghost use Rattle.verify_rules.specs.Rows as rows;
 
 use crate::arrays::{arrays_made, primitive_array_made};
 use crate::calls::{dynamic_row, interface_row, static_row, virtual_row};
-use crate::cause::Stop;
 use crate::constructors::special_row;
 use crate::env::Env;
 use crate::fields::field_row;
@@ -14,14 +13,13 @@ use crate::locals::counted;
 use crate::objects::constant_put;
 use crate::returns::{plain_return_row, return_row, thrown};
 use crate::silent_rows::{branch_row, class_row, int_put, int_taken, local_row, silent_row};
-use class_record::Ask;
 use jsa_ops::Instr;
 use sqlite_items::Items;
 use std::alloc::Global;
-use verify_types::Frame;
+use verify_rules::{Ask, Frame, Stop};
 
 // An opcode without operands.
-#[tactic(auto, unfolding(crate::specs::Rows::plain_row))]
+#[tactic(auto, unfolding(verify_rules::specs::Rows::plain_row))]
 fn plain_row(
     alloc: Global,
     asks: &mut Items<Ask>,
@@ -53,7 +51,7 @@ fn plain_row(
 }
 
 // A field instruction, or a call with an index alone.
-#[tactic(auto, unfolding(crate::specs::Rows::member_row))]
+#[tactic(auto, unfolding(verify_rules::specs::Rows::member_row))]
 fn member_row(
     alloc: Global,
     asks: &mut Items<Ask>,
@@ -77,7 +75,7 @@ fn member_row(
 }
 
 /// The row of an instruction at a place of the code: what it asks, and what it makes of the frame.
-#[tactic(auto, unfolding(crate::specs::Rows::row))]
+#[tactic(auto, unfolding(verify_rules::specs::Rows::row))]
 pub(crate) fn row(
     alloc: Global,
     asks: &mut Items<Ask>,

@@ -1,25 +1,22 @@
 //! The typing rows that ask nothing (JVMS 4.10.1.9), by their opcodes.
 ghost use Rattle.std.specs.Prelude.{◌≡◌, Some, None};
 ghost use Rattle.std.specs.Option.{option_copied};
-ghost use Rattle.type_verifier.specs.Causes.{Does};
-ghost use Rattle.type_verifier.specs.Letters.{over, moved, effect};
-ghost use Rattle.type_verifier.specs.Arrays.{array_made, primitive_array, arrays_made};
-ghost use Rattle.type_verifier.specs.Rows.{effect_row, array_loaded, array_stored, silent_row, local_row, branch_row, over_class, class_row, int_put, int_taken};
+ghost use Rattle.verify_rules.specs.Causes.{Does};
+ghost use Rattle.verify_rules.specs.Letters.{over, moved, effect};
+ghost use Rattle.verify_rules.specs.Arrays.{array_made, primitive_array, arrays_made};
+ghost use Rattle.verify_rules.specs.Rows.{effect_row, array_loaded, array_stored, silent_row, local_row, branch_row, over_class, class_row, int_put, int_taken};
 
 use crate::arrays::{
     array_made, array_over, element_loaded, element_stored, length_taken, reference_loaded,
     reference_stored,
 };
-use crate::cause::{Cause, Stop};
-use crate::effect::Effect;
 use crate::env::Env;
-use crate::letter::Letter;
 use crate::letters::{effect_of, letter_of, moved};
 use crate::locals::{loaded, stored};
 use crate::objects::{cast, monitored, new_made, tested};
 use crate::stack_forms::stack_form;
 use std::alloc::Global;
-use verify_types::{Frame, TypeStack};
+use verify_rules::{Cause, Effect, Frame, Letter, Stop, TypeStack};
 
 // ---- opcodes without operands
 
@@ -54,7 +51,7 @@ fn array_stored(kind: u8, stack: &mut TypeStack) -> Result<(), Stop>
 }
 
 /// The row of an opcode without operands that asks nothing. Each test has the last opcode of its run.
-#[tactic(auto, unfolding(crate::specs::Rows::silent_row))]
+#[tactic(auto, unfolding(verify_rules::specs::Rows::silent_row))]
 pub(crate) fn silent_row(alloc: Global, room: u16, op: u8, frame: &mut Frame) -> Result<(), Stop>
     ensures { Does (silent_row room op frame.old) result frame.new }
 {
@@ -99,7 +96,7 @@ pub(crate) fn silent_row(alloc: Global, room: u16, op: u8, frame: &mut Frame) ->
 // ---- opcodes with operands
 
 /// The row of a load or a store of a local that is written behind the opcode. ret isn't accepted.
-#[tactic(auto, unfolding(crate::specs::Rows::local_row))]
+#[tactic(auto, unfolding(verify_rules::specs::Rows::local_row))]
 pub(crate) fn local_row(
     alloc: Global,
     room: u16,
@@ -134,7 +131,7 @@ fn taken(top: Letter, below: Option<Letter>, stack: &mut TypeStack) -> Result<()
 
 /// What a branch takes (JVMS 6.5): one int, two ints, two references, nothing (goto, goto_w), one reference. jsr and jsr_w
 /// aren't accepted.
-#[tactic(auto, unfolding(crate::specs::Rows::branch_row))]
+#[tactic(auto, unfolding(verify_rules::specs::Rows::branch_row))]
 pub(crate) fn branch_row(op: u8, stack: &mut TypeStack) -> Result<(), Stop>
     ensures { Does (branch_row op stack.old) result stack.new }
 {
@@ -180,7 +177,7 @@ fn array_over_made(
 
 /// The row of an opcode with the index of a class: new, anewarray, checkcast and instanceof. The place is that of the
 /// instruction in the code.
-#[tactic(auto, unfolding(crate::specs::Rows::class_row))]
+#[tactic(auto, unfolding(verify_rules::specs::Rows::class_row))]
 pub(crate) fn class_row(
     alloc: Global,
     e: &Env<'_>,

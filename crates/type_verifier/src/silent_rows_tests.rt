@@ -1,14 +1,13 @@
 // What no contract says: that rows are typed where memory suffices.
 use crate::arrays::{array_made, array_over, arrays_made, primitive_array_made};
 use crate::assigning_tests::{put, word_of};
-use crate::cause::Stop;
 use crate::objects::{cast, constant_put, new_made, tested};
 use crate::silent_rows::{branch_row, int_put, int_taken, local_row, silent_row};
 use crate::test_rows::wrong_rows;
 use class_tree::{Pool, PoolEntry};
 use sqlite_items::Items;
 use std::alloc::{AllocError, Global};
-use verify_types::{Frame, TypeStack, VType};
+use verify_rules::{Frame, Stop, TypeStack, VType};
 
 fn empty_frame(alloc: Global) -> Result<Frame, AllocError> {
     let mut locals = Items::new(alloc);

@@ -1,17 +1,16 @@
 //! pop, dup and swap forms (JVMS 4.10.1.9). They move whole types: a long or a double is never split.
 ghost use Rattle.std.specs.Prelude.{◌≡◌, ◌++◌, [], ◌∷◌, IfOk};
-ghost use Rattle.verify_types.specs.Types.{is_top};
-ghost use Rattle.verify_types.specs.declared.types.VType.{VType};
-ghost use Rattle.type_verifier.specs.Causes.{Does};
-ghost use Rattle.type_verifier.specs.StackForms.{is_one, one_unit, two_units, put, stack_form};
-ghost use Rattle.type_verifier.specs.StackSteps as steps;
-ghost use Rattle.type_verifier.specs.StackSteps.{Cuts};
+ghost use Rattle.verify_rules.specs.Types.{is_top};
+ghost use Rattle.verify_rules.specs.declared.types.VType.{VType};
+ghost use Rattle.verify_rules.specs.Causes.{Does};
+ghost use Rattle.verify_rules.specs.StackForms.{is_one, one_unit, two_units, put, stack_form};
+ghost use Rattle.verify_rules.specs.StackSteps as steps;
+ghost use Rattle.verify_rules.specs.StackSteps.{Cuts};
 
-use crate::cause::{Cause, Stop};
 use crate::letters::push;
 use std::alloc::{AllocError, Global};
 use std::marker::Model;
-use verify_types::{TypeStack, VType, copied, size};
+use verify_rules::{Cause, Stop, TypeStack, VType, copied, size};
 
 // Types that a form moves together: one, or two of one unit. Contracts see their list, the upper one first.
 #[derive(Drop)]
@@ -23,7 +22,7 @@ struct Units {
 impl Model for Units {
     ghost use Rattle.std.specs.Prelude.{List, ◌∷◌};
     ghost use Rattle.std.specs.Option.{option_to_list};
-    ghost use Rattle.verify_types.specs.declared.types.VType.{VType};
+    ghost use Rattle.verify_rules.specs.declared.types.VType.{VType};
 
     ghost Value = { List VType };
 
@@ -81,7 +80,7 @@ fn put_one(room: u16, t: VType, stack: &mut TypeStack) -> Result<(), Stop>
 }
 
 // Puts a type, and then another on top of it.
-#[tactic(auto, unfolding(crate::specs::StackSteps::push_both))]
+#[tactic(auto, unfolding(verify_rules::specs::StackSteps::push_both))]
 fn push_both(room: u16, upper: VType, lower: VType, stack: &mut TypeStack) -> Result<(), Stop>
     ensures { Does (steps.push_both room upper lower stack.old) result stack.new }
 {
@@ -149,7 +148,7 @@ fn two_units(stack: &mut TypeStack) -> Result<Units, Stop>
 }
 
 // Puts types, and then others on top of them.
-#[tactic(auto, unfolding(crate::specs::StackSteps::put_both))]
+#[tactic(auto, unfolding(verify_rules::specs::StackSteps::put_both))]
 fn put_in_turn(room: u16, upper: Units, lower: Units, stack: &mut TypeStack) -> Result<(), Stop>
     ensures { Does (steps.put_both room upper lower stack.old) result stack.new }
 {
@@ -174,7 +173,7 @@ fn doubled(alloc: Global, room: u16, units: Units, stack: &mut TypeStack) -> Res
 }
 
 // Puts a copy, and then the lower types and the upper ones on top of it.
-#[tactic(auto, unfolding(crate::specs::StackSteps::put_both))]
+#[tactic(auto, unfolding(verify_rules::specs::StackSteps::put_both))]
 fn slip_in_turn(
     room: u16,
     upper: Units,
@@ -272,7 +271,7 @@ fn swap(room: u16, stack: &mut TypeStack) -> Result<(), Stop>
 }
 
 /// Does what a form of the operand stack does, from pop on to swap.
-#[tactic(auto, unfolding(crate::specs::StackForms::stack_form))]
+#[tactic(auto, unfolding(verify_rules::specs::StackForms::stack_form))]
 pub(crate) fn stack_form(
     alloc: Global,
     room: u16,

@@ -3,7 +3,7 @@ use crate::assigning_tests::put;
 use crate::stack_forms::stack_form;
 use crate::test_rows::wrong_rows;
 use std::alloc::{AllocError, Global};
-use verify_types::{TypeStack, VType};
+use verify_rules::{TypeStack, VType};
 
 // The form, the stack before it, and the stack after it.
 static CASES: &str = "pop AI = A

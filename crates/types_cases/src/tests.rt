@@ -4,10 +4,11 @@ use crate::test_tables::{TABLES, WHOLE};
 use class_tree::{CodeTree, Pool, PoolEntry};
 use sqlite_items::Items;
 use std::alloc::{AllocError, Global};
-use verify_types::{
-    Frame, Places, TypeStack, Unfinished, VType, VerifyFault, all_copied, copied, frame_copied,
-    frames_of, is_copy_of, item, size, stack_copied, tables_are_spelled, turn_locals,
+use verify_rules::{
+    Frame, TypeStack, Unfinished, VType, VerifyFault, all_copied, copied, frame_copied, is_copy_of,
+    item, size, stack_copied, turn_locals,
 };
+use verify_types::{Places, frames_of, tables_are_spelled};
 
 // new A, dup, goto 7, return
 static CODE: &str = "bb 00 02 59 a7 00 03 b1";

@@ -1,11 +1,11 @@
 //! The superclasses of a case, as the verifier is given them.
 use crate::base_text::BASES;
 use crate::cutting::{CaseFault, trees};
-use class_record::{ClassRecord, FieldRecord, MethodRecord, Tables};
 use class_tree::{ClassTree, FieldTree, MethodTree, Pool};
 use loader_rules::Loader;
 use sqlite_items::Items;
 use std::alloc::Global;
+use verify_rules::{Member, Superclass};
 
 /// The classes that cases are based on.
 pub fn bases(alloc: Global) -> Result<Vec<ClassTree>, CaseFault> {
@@ -13,51 +13,48 @@ pub fn bases(alloc: Global) -> Result<Vec<ClassTree>, CaseFault> {
 }
 
 // A text of the pool.
-fn text(alloc: Global, pool: &Pool, index: u16) -> Result<Items<u8>, CaseFault> {
+fn text(pool: &Pool, index: u16) -> Result<&[u8], CaseFault> {
     match pool.text(index) {
-        Some(text) => Ok(Items::from_slice(alloc, text)?),
+        Some(text) => Ok(text),
         None => Err(CaseFault::Wrong),
     }
 }
 
-fn class_name(alloc: Global, pool: &Pool, index: u16) -> Result<Items<u8>, CaseFault> {
+fn class_name(pool: &Pool, index: u16) -> Result<&[u8], CaseFault> {
     match pool.class_name(index) {
-        Some(name) => Ok(Items::from_slice(alloc, name)?),
+        Some(name) => Ok(name),
         None => Err(CaseFault::Wrong),
     }
 }
 
-fn field(alloc: Global, pool: &Pool, field: &FieldTree) -> Result<FieldRecord, CaseFault> {
-    Ok(FieldRecord {
-        name: text(alloc, pool, field.name)?,
-        desc: text(alloc, pool, field.desc)?,
+fn field<'a>(pool: &'a Pool, field: &FieldTree) -> Result<Member<'a>, CaseFault> {
+    Ok(Member {
+        name: text(pool, field.name)?,
+        desc: text(pool, field.desc)?,
         flags: field.flags,
-        slot: 0,
-        value: 0,
     })
 }
 
-fn method(alloc: Global, pool: &Pool, method: &MethodTree) -> Result<MethodRecord, CaseFault> {
-    Ok(MethodRecord {
-        name: text(alloc, pool, method.name)?,
-        desc: text(alloc, pool, method.desc)?,
+fn method<'a>(pool: &'a Pool, method: &MethodTree) -> Result<Member<'a>, CaseFault> {
+    Ok(Member {
+        name: text(pool, method.name)?,
+        desc: text(pool, method.desc)?,
         flags: method.flags,
-        code: None,
     })
 }
 
-fn fields(alloc: Global, tree: &ClassTree) -> Result<Items<FieldRecord>, CaseFault> {
+fn fields(alloc: Global, tree: &ClassTree) -> Result<Items<Member<'_>>, CaseFault> {
     let mut all = Items::new(alloc);
     for each in tree.fields.as_slice() {
-        all.push(field(alloc, &tree.pool, each)?)?;
+        all.push(field(&tree.pool, each)?)?;
     }
     Ok(all)
 }
 
-fn methods(alloc: Global, tree: &ClassTree) -> Result<Items<MethodRecord>, CaseFault> {
+fn methods(alloc: Global, tree: &ClassTree) -> Result<Items<Member<'_>>, CaseFault> {
     let mut all = Items::new(alloc);
     for each in tree.methods.as_slice() {
-        all.push(method(alloc, &tree.pool, each)?)?;
+        all.push(method(&tree.pool, each)?)?;
     }
     Ok(all)
 }
@@ -71,27 +68,14 @@ fn loader_of(name: &[u8]) -> Loader {
     }
 }
 
-fn record(alloc: Global, tree: &ClassTree) -> Result<ClassRecord, CaseFault> {
-    let name = class_name(alloc, &tree.pool, tree.this)?;
-    let loader = loader_of(name.as_slice());
-    Ok(ClassRecord {
+fn superclass(alloc: Global, tree: &ClassTree) -> Result<Superclass<'_>, CaseFault> {
+    let name = class_name(&tree.pool, tree.this)?;
+    Ok(Superclass {
         name,
+        loader: loader_of(name),
         flags: tree.flags,
-        loader,
-        major: tree.major,
-        sup: None,
-        interfaces: Items::new(alloc),
-        pool: Items::new(alloc),
         fields: fields(alloc, tree)?,
         methods: methods(alloc, tree)?,
-        tables: Tables {
-            slots: Items::new(alloc),
-            itables: Items::new(alloc),
-        },
-        asks: Items::new(alloc),
-        instance_size: 0,
-        static_size: 0,
-        folder: 0,
     })
 }
 
@@ -114,18 +98,18 @@ fn above<'a>(bases: &'a [ClassTree], tree: &ClassTree) -> Option<&'a ClassTree> 
 }
 
 /// The superclasses of a class among some, from the direct one up.
-pub fn supers_of(
+pub fn supers_of<'a>(
     alloc: Global,
-    bases: &[ClassTree],
+    bases: &'a [ClassTree],
     tree: &ClassTree,
-) -> Result<Items<ClassRecord>, CaseFault> {
+) -> Result<Items<Superclass<'a>>, CaseFault> {
     let mut all = Items::new(alloc);
     let mut next = above(bases, tree);
     for _ in 0..bases.len() {
         let Some(found) = next else {
             return Ok(all);
         };
-        all.push(record(alloc, found)?)?;
+        all.push(superclass(alloc, found)?)?;
         next = above(bases, found);
     }
     Ok(all)

@@ -2,12 +2,12 @@
 use crate::cutting::trees;
 use crate::{Case, bases, cases, supers_of, tree_of};
 use boot_library::boot_text;
-use class_record::{Ask, ClassRecord};
 use class_tree::ClassTree;
 use loader_rules::Loader;
 use std::alloc::{AllocError, Global};
 use std::test::Fail;
-use type_verifier::{Checked, Place, check_class};
+use type_verifier::check_class;
+use verify_rules::{Ask, Checked, Place, Superclass};
 
 // ---- what is found, as the cases write it
 
@@ -47,7 +47,7 @@ fn say_check(
     alloc: Global,
     tree: &ClassTree,
     loader: Loader,
-    supers: &[ClassRecord],
+    supers: &[Superclass<'_>],
     said: &mut String,
 ) -> Result<(), AllocError> {
     let found = check_class(alloc, tree, loader, supers)?;

@@ -5,10 +5,10 @@ use Rattle.jsa_base.specs.Reading.{◌>>=◌}
 use Rattle.jsa_base.proofs.Codecs.{bind_some, some_is}
 use Rattle.class_tree.specs.declared.constant_pool.PoolEntry.{PoolEntry}
 use Rattle.class_tree.specs.declared.tree.CodeTree.{CodeTree}
-use Rattle.verify_types.specs.declared.types.VType.{VType}
-use Rattle.verify_types.specs.declared.types.Frame.{Frame}
-use Rattle.verify_types.specs.declared.written.WrittenFrame.{WrittenFrame}
-use Rattle.verify_types.specs.Frames.{shown_after, frame_of, place_after, frames_from, written_in, written_locals, frames_of}
+use Rattle.verify_rules.specs.declared.types.VType.{VType}
+use Rattle.verify_rules.specs.declared.types.Frame.{Frame}
+use Rattle.verify_rules.specs.declared.written.WrittenFrame.{WrittenFrame}
+use Rattle.verify_rules.specs.Frames.{shown_after, frame_of, place_after, frames_from, written_in, written_locals, frames_of}
 
 -- the first of the frames, and those behind it
 record Cut (pool : List PoolEntry) (c : CodeTree) (place : ℕ) (ws : List WrittenFrame) (frames : List (ℕ × Frame)) : Type 0 where

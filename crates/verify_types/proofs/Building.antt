@@ -7,19 +7,19 @@ use Rattle.std.proofs.lemmas.List.Concat.{flat_map-cons}
 use Rattle.jsa_base.specs.Reading.{◌>>=◌}
 use Rattle.class_tree.specs.declared.constant_pool.PoolEntry.{PoolEntry}
 use Rattle.class_tree.specs.declared.tree.CodeTree.{CodeTree}
-use Rattle.verify_types.specs.declared.types.VType.{VType}
-use Rattle.verify_types.specs.declared.types.VType.TheVariants as types
-use Rattle.verify_types.specs.declared.types.Frame.{Frame}
-use Rattle.verify_types.specs.declared.fault.VerifyFault.{VerifyFault}
-use Rattle.verify_types.specs.declared.fault.VerifyFault.TheVariants.{Bad, Memory}
-use Rattle.verify_types.specs.declared.written.WrittenType.{WrittenType}
-use Rattle.verify_types.specs.declared.written.WrittenFrame.{WrittenFrame}
-use Rattle.verify_types.specs.Types.{size, units, is_top}
-use Rattle.verify_types.specs.Outcomes.{Fails}
-use Rattle.verify_types.specs.Steps.{framed, framed_of, is_top_at, is_top_in}
-use Rattle.verify_types.specs.Frames.{Shown, shown_after, frame_of, type_of, types_of, slots, is_wide, without_seconds, before_written, without_tail, frames_from, place_after}
-use Rattle.verify_types.proofs.Tops.{get_last}
-use Rattle.verify_types.proofs.Units.{rest_is}
+use Rattle.verify_rules.specs.declared.types.VType.{VType}
+use Rattle.verify_rules.specs.declared.types.VType.TheVariants as types
+use Rattle.verify_rules.specs.declared.types.Frame.{Frame}
+use Rattle.verify_rules.specs.declared.fault.VerifyFault.{VerifyFault}
+use Rattle.verify_rules.specs.declared.fault.VerifyFault.TheVariants.{Bad, Memory}
+use Rattle.verify_rules.specs.declared.written.WrittenType.{WrittenType}
+use Rattle.verify_rules.specs.declared.written.WrittenFrame.{WrittenFrame}
+use Rattle.verify_rules.specs.Types.{size, units, is_top}
+use Rattle.verify_rules.specs.Outcomes.{Fails}
+use Rattle.verify_rules.specs.Steps.{framed, framed_of, is_top_at, is_top_in}
+use Rattle.verify_rules.specs.Frames.{Shown, shown_after, frame_of, type_of, types_of, slots, is_wide, without_seconds, before_written, without_tail, frames_from, place_after}
+use Rattle.verify_rules.proofs.Tops.{get_last}
+use Rattle.verify_rules.proofs.Units.{rest_is}
 
 -- ---- types
 

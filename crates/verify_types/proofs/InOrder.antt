@@ -9,7 +9,7 @@ use Rattle.jsa_ops.specs.declared.fault.OpFault.{OpFault}
 use Rattle.jsa_ops.specs.Instruction.{Instruction}
 use Rattle.jsa_ops.specs.Reading.{decoded}
 use Rattle.jsa_ops.proofs.Placed.{next_is}
-use Rattle.verify_types.specs.Places.{Placed, Instructions, decoded_before, instructions_from, instructions}
+use Rattle.verify_rules.specs.Places.{Placed, Instructions, decoded_before, instructions_from, instructions}
 
 -- What is said of an instruction that is decoded at a place of a code.
 pub record Stands (code : List ℕ) (place : ℕ) (p : Placed) : Type 0 where

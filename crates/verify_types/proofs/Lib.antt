@@ -1,10 +1,7 @@
-pub mod Tops
-pub mod Turning
 pub mod InOrder
 pub mod Marked
 pub mod ReadLoops
 pub mod TableCodecs
 pub mod Building
-pub mod Units
 pub mod Ascending
 pub mod Starts

@@ -13,7 +13,7 @@ use Rattle.jsa_ops.specs.Instruction.{Instruction}
 use Rattle.jsa_ops.specs.Reading.{decoded}
 use Rattle.verify_types.specs.declared.places.Mark.{Mark}
 use Rattle.verify_types.specs.declared.places.Mark.TheVariants.{Inside, Start, New}
-use Rattle.verify_types.specs.Places.{Placed, Instructions, is_new_instruction, decoded_before, instructions_from, instructions, is_start, is_new}
+use Rattle.verify_rules.specs.Places.{Placed, Instructions, is_new_instruction, decoded_before, instructions_from, instructions, is_start, is_new}
 use Rattle.verify_types.specs.Marks.{mark_of, begins, makes, place_of, Knows}
 use Rattle.verify_types.proofs.InOrder.{Stands, Chain, none_left, from_within, from_past, short_instructions, long_instructions, in_a_chain, stands}
 

@@ -3,7 +3,7 @@ use Rattle.std.proofs.Common.{◌≡◌, ℕ, zero, suc, Bool, true, false, eqb,
 use Rattle.std.specs.Prelude.{slice_get, ◌==◌, ◌||◌}
 use Rattle.std.specs.List.{list_any}
 use Rattle.std.proofs.lemmas.Bool.{eqb-true, eq-eqb}
-use Rattle.verify_types.specs.Places.{Placed, instructions, is_start}
+use Rattle.verify_rules.specs.Places.{Placed, instructions, is_start}
 
 abbrev begins_at : ℕ → Placed → Bool
 begins_at place p = p.place == place

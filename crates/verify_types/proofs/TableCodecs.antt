@@ -7,13 +7,13 @@ use Rattle.jsa_base.specs.Reading.{◌>>=◌, Read, IsBytes, u2_at, pair_at, mad
 use Rattle.jsa_base.specs.Spelling.{u1, u2, counted, Fits2, FitsCounted}
 use Rattle.jsa_base.specs.Codec.{Took, Codec}
 use Rattle.jsa_base.proofs.Codecs.{bind_some, some_is, all_read_is, append-IsBytes, u2_codec, times_codec, counted_codec, pair_codec, leaf, on_tag}
-use Rattle.verify_types.specs.declared.written.WrittenType.{WrittenType}
-use Rattle.verify_types.specs.declared.written.WrittenType.TheVariants.{Top, Integer, Float, Double, Long, Null, UninitializedThis, Object, Uninitialized}
-use Rattle.verify_types.specs.declared.written.Change.{Change}
-use Rattle.verify_types.specs.declared.written.Change.TheVariants.{Same, SameItem, Chop, Append, Full}
-use Rattle.verify_types.specs.declared.written.WrittenFrame.{WrittenFrame}
-use Rattle.verify_types.specs.Table.{type_text, types_text, change_text, frame_text, table_text, FitsType, FitsChange, FitsFrame, FitsTable, type_by, type_at, item_at, append_at, full_at, far_at, frame_by, frame_at, table_of, changed}
-use Rattle.verify_types.specs.Frames.{TablesAreSpelled}
+use Rattle.verify_rules.specs.declared.written.WrittenType.{WrittenType}
+use Rattle.verify_rules.specs.declared.written.WrittenType.TheVariants.{Top, Integer, Float, Double, Long, Null, UninitializedThis, Object, Uninitialized}
+use Rattle.verify_rules.specs.declared.written.Change.{Change}
+use Rattle.verify_rules.specs.declared.written.Change.TheVariants.{Same, SameItem, Chop, Append, Full}
+use Rattle.verify_rules.specs.declared.written.WrittenFrame.{WrittenFrame}
+use Rattle.verify_rules.specs.Table.{type_text, types_text, change_text, frame_text, table_text, FitsType, FitsChange, FitsFrame, FitsTable, type_by, type_at, item_at, append_at, full_at, far_at, frame_by, frame_at, table_of, changed}
+use Rattle.verify_rules.specs.Frames.{TablesAreSpelled}
 
 -- ---- tests
 

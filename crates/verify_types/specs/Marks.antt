@@ -4,7 +4,7 @@ use Rattle.jsa_base.specs.Reading.{IsBytes}
 use Rattle.jsa_ops.specs.Instruction.{Instruction}
 use Rattle.verify_types.specs.declared.places.Mark.{Mark}
 use Rattle.verify_types.specs.declared.places.Mark.TheVariants.{Inside, Start, New}
-use Rattle.verify_types.specs.Places.{Placed, instructions, is_new_instruction, is_start, is_new}
+use Rattle.verify_rules.specs.Places.{Placed, instructions, is_new_instruction, is_start, is_new}
 
 -- the mark of the first byte of an instruction
 abbrev pub mark_of : Instruction → Mark

@@ -2,23 +2,21 @@
 ghost use Rattle.std.specs.Prelude.{◌≡◌, ◌++◌, ◌-◌, ◌<◌, ◌≤◌, ◌^◌, ◌∷◌, [], List, IfOk, OnOk, MatchBool, Some, None, false, if◌then◌else◌, length, replicate, take};
 ghost use Rattle.std.specs.List.{flat_map, list_any};
 ghost use Rattle.class_tree.specs.WellFormed.{class_name};
-ghost use Rattle.verify_types.specs.declared.types.VType.{VType};
-ghost use Rattle.verify_types.specs.declared.types.VType.TheVariants as types;
-ghost use Rattle.verify_types.specs.Types.{units, is_uninitialized_this};
-ghost use Rattle.verify_types.specs.Places.{is_new};
-ghost use Rattle.verify_types.specs.Frames.{Answers, object_of, type_of, types_of, slots, filled, is_wide, without_seconds, without_tail, written_locals, without_last, shown_after, frame_of, place_after, frames_from, written_in, frames_of};
-ghost use Rattle.verify_types.specs.Steps.{Changes, Leaves, is_top_at, with_less, with_item, with_more, with_all, framed};
+ghost use Rattle.verify_rules.specs.declared.types.VType.{VType};
+ghost use Rattle.verify_rules.specs.declared.types.VType.TheVariants as types;
+ghost use Rattle.verify_rules.specs.Types.{units, is_uninitialized_this};
+ghost use Rattle.verify_rules.specs.Places.{is_new};
+ghost use Rattle.verify_rules.specs.Frames.{Answers, object_of, type_of, types_of, slots, filled, is_wide, without_seconds, without_tail, written_locals, without_last, shown_after, frame_of, place_after, frames_from, written_in, frames_of};
+ghost use Rattle.verify_rules.specs.Steps.{Changes, Leaves, is_top_at, with_less, with_item, with_more, with_all, framed};
 
-use crate::copies::copied;
-use crate::fault::VerifyFault;
 use crate::places::Places;
 use crate::reading::table_of;
-use crate::stack::{TypeStack, units_within};
-use crate::types::{Frame, VType};
-use crate::written::{Change, WrittenFrame, WrittenType};
 use class_tree::{CodeTree, Pool};
 use sqlite_items::Items;
 use std::alloc::{AllocError, Global};
+use verify_rules::{
+    Change, Frame, TypeStack, VType, VerifyFault, WrittenFrame, WrittenType, copied, units_within,
+};
 
 // ---- types
 
@@ -131,7 +129,7 @@ pub fn filled(alloc: Global, room: u16, types: &[VType]) -> Result<Items<VType>,
 }
 
 // Puts the type of a slot at the end, unless the slot is a second one, and says whether the next is.
-#[tactic(auto, unfolding(crate::specs::Frames::without_seconds))]
+#[tactic(auto, unfolding(verify_rules::specs::Frames::without_seconds))]
 fn push_first(
     alloc: Global,
     kept: &mut Items<VType>,
@@ -394,7 +392,7 @@ fn written_in(alloc: Global, map: &Option<Items<u8>>) -> Result<Items<WrittenFra
 /// has a kind or a type a tag that is none, a frame takes off more locals than there are, an Object names no Class of the
 /// pool, an Uninitialized no `new` of the code, or a frame takes more units than `max_locals` or `max_stack`. `Memory`
 /// comes where memory runs out.
-#[tactic(auto, unfolding(crate::specs::Frames::frames_of))]
+#[tactic(auto, unfolding(verify_rules::specs::Frames::frames_of))]
 pub fn frames_of(
     alloc: Global,
     code: &CodeTree,

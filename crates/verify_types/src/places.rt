@@ -3,7 +3,7 @@ ghost use Rattle.std.specs.Prelude.{◌≡◌, ◌<◌, IfOk, length, replicate,
 ghost use Rattle.std.specs.Option.{option_copied};
 ghost use Rattle.jsa_base.specs.Reading.{IsBytes};
 ghost use Rattle.jsa_ops.specs.Instruction.{shown};
-ghost use Rattle.verify_types.specs.Places.{instructions, is_start, is_new, is_new_instruction, placed_shown};
+ghost use Rattle.verify_rules.specs.Places.{instructions, is_start, is_new, is_new_instruction, placed_shown};
 ghost use Rattle.verify_types.specs.Marks.{Knows, mark_of, begins, makes};
 ghost use Rattle.verify_types.specs.declared.places.Mark.TheVariants.{Inside};
 

@@ -1,15 +1,14 @@
 //! Reads a StackMapTable from left to right (JVMS 4.7.4).
 ghost use Rattle.std.specs.Prelude.{◌≡◌, ◌<◌, ◌≤◌, length, IfOk};
 ghost use Rattle.jsa_base.specs.Reading.{u1_at, u2_at, times, counted_at};
-ghost use Rattle.verify_types.specs.Outcomes.{Gives};
-ghost use Rattle.verify_types.specs.Frames.{Answers, TablesAreSpelled};
-ghost use Rattle.verify_types.specs.Table.{type_by, type_at, item_at, append_at, full_at, far_at, frame_by, frame_at, table_of};
+ghost use Rattle.verify_rules.specs.Outcomes.{Gives};
+ghost use Rattle.verify_rules.specs.Frames.{Answers, TablesAreSpelled};
+ghost use Rattle.verify_rules.specs.Table.{type_by, type_at, item_at, append_at, full_at, far_at, frame_by, frame_at, table_of};
 
-use crate::fault::VerifyFault;
-use crate::written::{Change, WrittenFrame, WrittenType};
 use jsa_base::Cursor;
 use sqlite_items::Items;
 use std::alloc::Global;
+use verify_rules::{Change, VerifyFault, WrittenFrame, WrittenType};
 
 fn u1(cursor: &mut Cursor<'_>) -> Result<u8, VerifyFault>
     ensures { Gives result cursor.new (u1_at cursor.old) }
@@ -26,7 +25,7 @@ fn u2(cursor: &mut Cursor<'_>) -> Result<u16, VerifyFault>
 // ---- types
 
 // What stands behind a tag.
-#[tactic(auto, unfolding(crate::specs::Table::type_by))]
+#[tactic(auto, unfolding(verify_rules::specs::Table::type_by))]
 fn type_behind(tag: u8, cursor: &mut Cursor<'_>) -> Result<WrittenType, VerifyFault>
     ensures { Gives result cursor.new (type_by tag cursor.old) }
 {
@@ -44,7 +43,7 @@ fn type_behind(tag: u8, cursor: &mut Cursor<'_>) -> Result<WrittenType, VerifyFa
     }
 }
 
-#[tactic(auto, unfolding(crate::specs::Table::type_at))]
+#[tactic(auto, unfolding(verify_rules::specs::Table::type_at))]
 fn one_type(cursor: &mut Cursor<'_>) -> Result<WrittenType, VerifyFault>
     ensures { Gives result cursor.new (type_at cursor.old) }
 {
@@ -52,7 +51,7 @@ fn one_type(cursor: &mut Cursor<'_>) -> Result<WrittenType, VerifyFault>
     type_behind(tag, cursor)
 }
 
-#[tactic(auto, using(crate::proofs::ReadLoops::goes_on, crate::proofs::ReadLoops::ends, crate::proofs::ReadLoops::is_done))]
+#[tactic(auto, using(jsa_base::proofs::Loops::goes_on, crate::proofs::ReadLoops::ends, jsa_base::proofs::Loops::is_done))]
 fn some_types(
     alloc: Global,
     count: u16,
@@ -76,7 +75,7 @@ fn counted_types(alloc: Global, cursor: &mut Cursor<'_>) -> Result<Items<Written
 
 // ---- what a frame changes
 
-#[tactic(auto, unfolding(crate::specs::Table::item_at))]
+#[tactic(auto, unfolding(verify_rules::specs::Table::item_at))]
 fn item(cursor: &mut Cursor<'_>) -> Result<Change, VerifyFault>
     ensures { Gives result cursor.new (item_at cursor.old) }
 {
@@ -84,7 +83,7 @@ fn item(cursor: &mut Cursor<'_>) -> Result<Change, VerifyFault>
     Ok(Change::SameItem(item))
 }
 
-#[tactic(auto, unfolding(crate::specs::Table::append_at))]
+#[tactic(auto, unfolding(verify_rules::specs::Table::append_at))]
 fn append(alloc: Global, count: u16, cursor: &mut Cursor<'_>) -> Result<Change, VerifyFault>
     ensures { Gives result cursor.new (append_at count cursor.old) }
 {
@@ -92,7 +91,7 @@ fn append(alloc: Global, count: u16, cursor: &mut Cursor<'_>) -> Result<Change, 
     Ok(Change::Append(types))
 }
 
-#[tactic(auto, unfolding(crate::specs::Table::full_at))]
+#[tactic(auto, unfolding(verify_rules::specs::Table::full_at))]
 fn full(alloc: Global, cursor: &mut Cursor<'_>) -> Result<Change, VerifyFault>
     ensures { Gives result cursor.new (full_at cursor.old) }
 {
@@ -102,7 +101,7 @@ fn full(alloc: Global, cursor: &mut Cursor<'_>) -> Result<Change, VerifyFault>
 }
 
 // What stands behind a written delta.
-#[tactic(auto, unfolding(crate::specs::Table::far_at))]
+#[tactic(auto, unfolding(verify_rules::specs::Table::far_at))]
 fn far(alloc: Global, kind: u8, cursor: &mut Cursor<'_>) -> Result<Change, VerifyFault>
     requires { 247 ≤ kind }
     ensures { Gives result cursor.new (far_at kind cursor.old) }
@@ -125,7 +124,7 @@ fn far(alloc: Global, kind: u8, cursor: &mut Cursor<'_>) -> Result<Change, Verif
 // ---- frames
 
 // What stands behind a kind.
-#[tactic(auto, unfolding(crate::specs::Table::frame_by))]
+#[tactic(auto, unfolding(verify_rules::specs::Table::frame_by))]
 fn frame_behind(
     alloc: Global,
     kind: u8,
@@ -160,7 +159,7 @@ fn frame_behind(
     })
 }
 
-#[tactic(auto, unfolding(crate::specs::Table::frame_at))]
+#[tactic(auto, unfolding(verify_rules::specs::Table::frame_at))]
 fn frame(alloc: Global, cursor: &mut Cursor<'_>) -> Result<WrittenFrame, VerifyFault>
     ensures { Gives result cursor.new (frame_at cursor.old) }
 {
@@ -168,7 +167,7 @@ fn frame(alloc: Global, cursor: &mut Cursor<'_>) -> Result<WrittenFrame, VerifyF
     frame_behind(alloc, kind, cursor)
 }
 
-#[tactic(auto, using(crate::proofs::ReadLoops::goes_on, crate::proofs::ReadLoops::ends, crate::proofs::ReadLoops::is_done))]
+#[tactic(auto, using(jsa_base::proofs::Loops::goes_on, crate::proofs::ReadLoops::ends, jsa_base::proofs::Loops::is_done))]
 fn some_frames(
     alloc: Global,
     count: u16,
@@ -199,7 +198,7 @@ fn counted_frames(
 ///
 /// `Bad` comes exactly where the bytes are the text of none: where they are cut, a byte follows the last frame, or a frame
 /// has a kind or a type a tag that is none. `Memory` comes where memory runs out.
-#[tactic(auto, unfolding(crate::specs::Table::table_of))]
+#[tactic(auto, unfolding(verify_rules::specs::Table::table_of))]
 pub(crate) fn table_of(alloc: Global, bytes: &[u8]) -> Result<Items<WrittenFrame>, VerifyFault>
     ensures answers { Answers result (table_of bytes.now) }
     ensures few { IfOk result (λ frames. length frames < 65536) }

@@ -8,10 +8,10 @@ use Rattle.class_record.specs.Loading.{Event, Outcome}
 use Rattle.class_record.specs.Worlds.{ClassWorld, World, AsTold}
 use Rattle.class_record.specs.Calls.{Progress, Leaves, Stops, passed}
 use Rattle.class_record.proofs.Leaving.{leaves_both, passed_behind, passed_first}
-use Rattle.vm_start.specs.declared.starting.Start.{Start}
-use Rattle.vm_start.specs.declared.starting.Start.TheVariants as starts
-use Rattle.vm_start.specs.Required.{Required, required}
-use Rattle.vm_start.specs.Starting.{Started, NoBoot, after_events, fetch, start_main, start_from, Answers}
+use Rattle.class_record.specs.declared.start.Start.{Start}
+use Rattle.class_record.specs.declared.start.Start.TheVariants as starts
+use Rattle.class_record.specs.Required.{Required, required}
+use Rattle.class_record.specs.Starting.{Started, NoBoot, after_events, fetch, start_main, start_from, Answers}
 use Rattle.vm_start.specs.Steps.{AnswersTest, is_good, from_number, Leads}
 use Rattle.vm_start.specs.Table.{numbered}
 use Rattle.vm_start.proofs.Tellings.{told_two}

@@ -1,7 +1,7 @@
 -- The lines of a class list.
 use Rattle.std.proofs.Common.{◌≡◌, ℕ, zero, suc, ◌+◌, add-one, List, [], ◌∷◌, ◌++◌, drop, Some, slice_get, sym, ◌∙◌, ap, append_assoc}
 use Rattle.class_record.specs.Files.{Name}
-use Rattle.vm_start.specs.ClassList.{class_list}
+use Rattle.class_record.specs.ClassList.{class_list}
 
 line_here : (names : List Name) (k : ℕ) (name : Name) → slice_get names k ≡ Some name → class_list (drop k names) ≡ name ++ 10 ∷ class_list (drop (suc k) names)
 line_here [] k name h = absurd cc

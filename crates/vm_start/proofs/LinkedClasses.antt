@@ -5,10 +5,10 @@ use Rattle.class_record.specs.declared.fault.ClassesFault.{ClassesFault}
 use Rattle.class_record.specs.Files.{Name}
 use Rattle.class_record.specs.Facts.{Facts, names_of}
 use Rattle.class_record.specs.Calls.{LinksOne}
-use Rattle.vm_start.specs.declared.starting.Start.{Start}
-use Rattle.vm_start.specs.declared.starting.Start.TheVariants as starts
-use Rattle.vm_start.specs.Required.{Required, required}
-use Rattle.vm_start.specs.Starting.{IsLinkedClass, LinksRequired}
+use Rattle.class_record.specs.declared.start.Start.{Start}
+use Rattle.class_record.specs.declared.start.Start.TheVariants as starts
+use Rattle.class_record.specs.Required.{Required, required}
+use Rattle.class_record.specs.Starting.{IsLinkedClass, LinksRequired}
 use Rattle.vm_start.specs.Table.{numbered}
 
 -- ---- what grows

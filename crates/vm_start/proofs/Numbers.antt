@@ -1,7 +1,7 @@
 -- The required classes by their numbers.
 use Rattle.std.proofs.Common.{◌≡◌, ℕ, zero, suc, ◌≤◌, length, None, sym, arith}
 use Rattle.std.proofs.lemmas.Option.{slice_get_past}
-use Rattle.vm_start.specs.Required.{required}
+use Rattle.class_record.specs.Required.{required}
 use Rattle.vm_start.specs.Table.{numbered}
 
 pub none_past : (n : ℕ) → 39 ≤ n → None ≡ numbered n

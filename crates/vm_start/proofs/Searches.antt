@@ -5,7 +5,7 @@ use Rattle.std.proofs.lemmas.List.{drop_all}
 use Rattle.std.specs.Prelude.{◌&&◌, is_none}
 use Rattle.std.specs.Option.{option_map}
 use Rattle.class_record.specs.Files.{Name}
-use Rattle.vm_start.specs.Required.{is_same_sup, are_same}
+use Rattle.class_record.specs.Required.{is_same_sup, are_same}
 
 -- nothing is left, at a place where nothing stands
 pub any_none : {A : Type 0} (p : A → Bool) (xs : List A) (k : ℕ) → None ≡ option_map p (slice_get xs k) → list_any p (drop k xs) ≡ false

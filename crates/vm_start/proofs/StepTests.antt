@@ -11,8 +11,8 @@ use Rattle.class_record.specs.Loading.{Event, Outcome, and_then, after_fault}
 use Rattle.class_record.specs.Worlds.{ClassWorld, World, AsTold}
 use Rattle.class_record.specs.Calls.{Progress, Leaves, Stops, AnswersLoad, passed}
 use Rattle.class_record.proofs.Leaving.{leaves_both, passed_behind, passed_first}
-use Rattle.vm_start.specs.Required.{Required}
-use Rattle.vm_start.specs.Starting.{is_as_asked, fetch}
+use Rattle.class_record.specs.Required.{Required}
+use Rattle.class_record.specs.Starting.{is_as_asked, fetch}
 use Rattle.vm_start.specs.Steps.{AnswersTest}
 use Rattle.vm_start.proofs.Tellings.{told_one, told_two}
 

@@ -5,9 +5,9 @@ use Rattle.class_record.specs.Files.{Name}
 use Rattle.class_record.specs.Loading.{Outcome}
 use Rattle.class_record.specs.Worlds.{ClassWorld}
 use Rattle.class_record.specs.Calls.{Progress, Leaves, Stops}
-use Rattle.vm_start.specs.declared.starting.Start.{Start}
-use Rattle.vm_start.specs.Required.{Required, required}
-use Rattle.vm_start.specs.Starting.{is_as_asked, start_from, Answers}
+use Rattle.class_record.specs.declared.start.Start.{Start}
+use Rattle.class_record.specs.Required.{Required, required}
+use Rattle.class_record.specs.Starting.{is_as_asked, start_from, Answers}
 
 -- whether it comes to this outcome without a throwable, and is as it is asked for
 abbrev pub is_good : ClassWorld → Required → Outcome → Bool

@@ -2,7 +2,7 @@
 use Rattle.std.specs.Prelude.{ℕ, zero, suc, [], map, false, Option, Some, None, slice_get, codes}
 use Rattle.class_record.specs.Files.{Name}
 use Rattle.std.specs.Option.{option_map}
-use Rattle.vm_start.specs.Required.{Wanted, Required, required, lang}
+use Rattle.class_record.specs.Required.{Wanted, Required, required, lang}
 use Rattle.vm_start.specs.declared.required.Above.{Above}
 use Rattle.vm_start.specs.declared.required.Above.TheVariants.{Throwable, Exception, Error, LinkageError, ClassFormatError, IncompatibleClassChangeError, VirtualMachineError, RuntimeException, IndexOutOfBoundsException}
 use Rattle.vm_start.specs.declared.required.Row.{Row}

@@ -3,17 +3,17 @@ ghost use Rattle.std.specs.Prelude.{◌≡◌, ◌<◌, ◌&&◌, not, is_none, 
 ghost use Rattle.std.specs.List.{list_any};
 ghost use Rattle.std.specs.Option.{option_map};
 ghost use Rattle.std.specs.Str.{bytes_eq};
-ghost use Rattle.class_tree.specs.Flags.{has};
+ghost use Rattle.class_tree.specs.Flags.{is_static};
 ghost use Rattle.class_record.specs.Facts as known;
 ghost use Rattle.class_record.specs.Facts.{names_of};
-ghost use Rattle.vm_start.specs.Required.{is_same_sup, are_same, is_initializer, is_wanted, has_field};
-ghost use Rattle.vm_start.specs.Starting.{is_as_asked};
+ghost use Rattle.class_record.specs.Required.{is_same_sup, are_same, is_initializer, is_wanted, has_field};
+ghost use Rattle.class_record.specs.Starting.{is_as_asked};
 ghost use Rattle.vm_start.specs.Table.{row_of, wanted_of};
 ghost use Rattle.vm_start.specs.Asked.{fields_at, methods_at};
 
 use crate::required::{Row, WantedField};
 use class_record::{ClassId, Classes};
-use class_tree::has_flag;
+use class_tree::{is_interface, is_static};
 
 // A class has fewer fields and fewer methods than this (JVMS 4.1).
 const MAX_MEMBERS: u32 = 65_536;
@@ -25,7 +25,7 @@ pub(crate) fn meets<C: Classes>(classes: &C, id: ClassId, row: &Row) -> bool
 {
     has_sup(classes, id, row.sup)
         && has_interfaces(classes, id, row.interfaces)
-        && has_flag(classes.flags(id), 0x0200) == row.is_interface
+        && is_interface(classes.flags(id)) == row.is_interface
         && !has_initializer(classes, id)
         && has_wanted(classes, id, row.field)
 }
@@ -146,7 +146,7 @@ fn is_wanted_at<C: Classes>(classes: &C, id: ClassId, k: u32, wanted: WantedFiel
 }
 
 fn is_wanted_field(name: &[u8], desc: &[u8], flags: u16, wanted: WantedField) -> bool
-    ensures { result ≡ (bytes_eq name.now wanted.name.now && bytes_eq desc.now wanted.desc.now && not (has flags 0x0008)) }
+    ensures { result ≡ (bytes_eq name.now wanted.name.now && bytes_eq desc.now wanted.desc.now && not (is_static flags)) }
 {
-    name == wanted.name.as_bytes() && desc == wanted.desc.as_bytes() && !has_flag(flags, 0x0008)
+    name == wanted.name.as_bytes() && desc == wanted.desc.as_bytes() && !is_static(flags)
 }

@@ -1,7 +1,7 @@
 //! The class list of a run.
 ghost use Rattle.std.specs.Prelude.{◌≡◌, ◌++◌, ◌∷◌, [], IfOk};
 ghost use Rattle.class_record.specs.Facts.{names_of};
-ghost use Rattle.vm_start.specs.ClassList.{class_list};
+ghost use Rattle.class_record.specs.ClassList.{class_list};
 
 use class_record::{ClassId, Classes};
 use std::alloc::{AllocError, Global};

@@ -3,8 +3,8 @@ ghost use Rattle.std.specs.Prelude.{◌≡◌, ◌++◌, ◌<◌, ℕ, true, Lis
 ghost use Rattle.class_record.specs.Worlds.{AsTold};
 ghost use Rattle.class_record.specs.Facts.{Facts, names_of};
 ghost use Rattle.class_record.specs.Calls.{CountsRead, NamesLimit};
-ghost use Rattle.vm_start.specs.Starting as spec;
-ghost use Rattle.vm_start.specs.Starting.{IsLinkedClass};
+ghost use Rattle.class_record.specs.Starting as spec;
+ghost use Rattle.class_record.specs.Starting.{IsLinkedClass};
 ghost use Rattle.vm_start.specs.Steps.{AnswersTest};
 ghost use Rattle.vm_start.specs.Table.{row_of};
 

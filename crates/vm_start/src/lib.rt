@@ -9,4 +9,4 @@ mod starting;
 
 pub use class_list::load_list;
 pub use required::required_name;
-pub use starting::{Start, start_run};
+pub use starting::start_run;

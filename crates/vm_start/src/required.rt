@@ -1,8 +1,8 @@
 //! The required classes.
 ghost use Rattle.std.specs.Prelude.{◌≡◌, ◌<◌, ◌≤◌, Some};
 ghost use Rattle.std.specs.Option.{option_map};
-ghost use Rattle.vm_start.specs.Required as asked;
-ghost use Rattle.vm_start.specs.Starting as spec;
+ghost use Rattle.class_record.specs.Required as asked;
+ghost use Rattle.class_record.specs.Starting as spec;
 ghost use Rattle.vm_start.specs.Table.{row_of, extending, numbered};
 ghost use Rattle.vm_start.specs.Table as table;
 

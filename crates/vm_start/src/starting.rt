@@ -3,23 +3,12 @@ ghost use Rattle.std.specs.Prelude.{◌≡◌, ◌++◌, ◌<◌, ℕ, true, Lis
 ghost use Rattle.class_record.specs.Worlds.{AsTold};
 ghost use Rattle.class_record.specs.Facts.{Facts, names_of};
 ghost use Rattle.class_record.specs.Calls.{CountsRead, NamesLimit};
-ghost use Rattle.vm_start.specs.Starting.{Answers, AnswersStart, LinksRequired, NamesClass, start_main};
+ghost use Rattle.class_record.specs.Starting.{Answers, AnswersStart, LinksRequired, NamesClass, start_main};
 
 use crate::fetching::fetch;
 use crate::required::required;
-use class_record::{ClassId, Classes, ClassesFault};
+use class_record::{Classes, ClassesFault, Start};
 use loader_rules::Loader;
-
-/// How the start of a run ended.
-#[derive(Clone, Copy, Debug, PartialEq, Eq)]
-pub enum Start {
-    /// The class with this number, from 1 on, is the first of the required classes that is wanting.
-    NoBoot(u32),
-    /// The main class doesn't load.
-    NoMain,
-    /// The main class is loaded.
-    Ready(ClassId),
-}
 
 /// Begins a run: loads and links the classes that every run begins with from the boot loader, one after the other, and then
 /// loads the main class from the application loader (JVMS 5.2, 5.3, 5.4).

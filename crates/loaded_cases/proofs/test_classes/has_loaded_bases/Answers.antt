@@ -7,7 +7,8 @@ use Rattle.class_record.specs.declared.bases.BaseKind.{BaseKind}
 use Rattle.class_record.specs.declared.bases.BaseKind.TheVariants.{Superclass, Superinterface}
 use Rattle.class_record.specs.Files.{Name}
 use Rattle.class_record.specs.declared.bases.Base.{Base}
-use Rattle.class_record.specs.Trees.{base_of, bases_of, sup_name, interface_names}
+use Rattle.class_record.specs.Trees.{base_of, bases_of}
+use Rattle.class_tree.specs.ClassNames.{sup_name, interface_names}
 use Rattle.class_record.specs.Facts.{names_of}
 use Rattle.class_record.specs.Loading.{is_among}
 use Rattle.loaded_cases.proofs.test_classes.has_loaded_bases.Goals as goal

@@ -1,5 +1,5 @@
 use Rattle.std.proofs.Common.{◌≡◌, ◌+◌, length}
-use Rattle.type_verifier.specs.Arrays.{dimensions}
+use Rattle.verify_rules.specs.Arrays.{dimensions}
 use Rattle.type_verifier.proofs.arrays.dimensions.Given as goal
 
 abbrev pub invariant-loop-rest : goal.invariant-loop-rest

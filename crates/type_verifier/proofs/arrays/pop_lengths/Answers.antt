@@ -1,10 +1,10 @@
 use Rattle.std.proofs.Common.{◌≡◌, ℕ, suc, ◌+◌, ◌-◌, ◌<◌, List, refl, sym, ◌∙◌, arith}
 use Rattle.std.specs.Prelude.{Ok}
-use Rattle.verify_types.specs.declared.types.VType.{VType}
-use Rattle.type_verifier.specs.declared.letter.Letter.TheVariants.{Int}
-use Rattle.type_verifier.specs.Causes.{Typed, Does, ◌>>=◌}
-use Rattle.type_verifier.specs.Letters.{pop_letter}
-use Rattle.type_verifier.specs.Arrays.{pop_lengths}
+use Rattle.verify_rules.specs.declared.types.VType.{VType}
+use Rattle.verify_rules.specs.declared.letter.Letter.TheVariants.{Int}
+use Rattle.verify_rules.specs.Causes.{Typed, Does, ◌>>=◌}
+use Rattle.verify_rules.specs.Letters.{pop_letter}
+use Rattle.verify_rules.specs.Arrays.{pop_lengths}
 use Rattle.type_verifier.proofs.arrays.pop_lengths.Goals as goal
 
 one_more : (n k : ℕ) (s : List VType) → k < n → pop_lengths (n - k) s ≡ (pop_letter Int s >>= λ t. pop_lengths (n - (k + 1)) t)

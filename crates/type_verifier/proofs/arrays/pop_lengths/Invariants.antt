@@ -1,5 +1,5 @@
 use Rattle.std.proofs.Common.{◌≡◌, ◌-◌}
-use Rattle.type_verifier.specs.Arrays.{pop_lengths}
+use Rattle.verify_rules.specs.Arrays.{pop_lengths}
 use Rattle.type_verifier.proofs.arrays.pop_lengths.Given as goal
 
 abbrev pub invariant-loop : goal.invariant-loop

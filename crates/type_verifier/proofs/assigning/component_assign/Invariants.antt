@@ -1,5 +1,5 @@
 use Rattle.std.proofs.Common.{◌≡◌, length}
-use Rattle.type_verifier.specs.Assign.{component_assign}
+use Rattle.verify_rules.specs.Assign.{component_assign}
 use Rattle.type_verifier.proofs.assigning.component_assign.Given as goal
 
 abbrev pub invariant-loop-from_left : goal.invariant-loop-from_left

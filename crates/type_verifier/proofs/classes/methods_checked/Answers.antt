@@ -1,8 +1,8 @@
 use Rattle.std.proofs.Common.{◌≡◌, ◌<◌, ◌≤◌, length, slice_get, Some, sym, ◌∙◌, subst, arith, refl}
 use Rattle.std.specs.Prelude.{IfOk}
 use Rattle.std.proofs.lemmas.Option.{slice_get_read}
-use Rattle.type_verifier.specs.declared.checking.Checked.{Checked}
-use Rattle.type_verifier.specs.Classes.{methods_checked}
+use Rattle.verify_rules.specs.declared.checking.Checked.{Checked}
+use Rattle.verify_rules.specs.Classes.{methods_checked}
 use Rattle.type_verifier.proofs.Progress.{method_on, method_stop, methods_end}
 use Rattle.type_verifier.proofs.classes.methods_checked.Goals as goal
 

@@ -1,5 +1,5 @@
 use Rattle.std.proofs.Common.{drop}
-use Rattle.type_verifier.specs.Classes.{methods_checked}
+use Rattle.verify_rules.specs.Classes.{methods_checked}
 use Rattle.type_verifier.proofs.Progress.{Checking}
 use Rattle.type_verifier.proofs.classes.methods_checked.Given as goal
 

@@ -1,7 +1,7 @@
 use Rattle.std.proofs.Common.{◌≡◌, drop, [], ◌∷◌}
-use Rattle.class_record.specs.Trees.{own_name}
-use Rattle.verify_types.specs.Types.{top_first}
-use Rattle.type_verifier.specs.Classes.{overrides_final}
+use Rattle.class_tree.specs.ClassNames.{own_name}
+use Rattle.verify_rules.specs.Types.{top_first}
+use Rattle.verify_rules.specs.Classes.{overrides_final}
 use Rattle.type_verifier.proofs.classes.overrides_final.Given as goal
 
 abbrev pub invariant-loop-c : goal.invariant-loop-c

@@ -1,6 +1,6 @@
 use Rattle.std.proofs.Common.{◌≡◌, drop}
 use Rattle.std.specs.List.{list_any}
-use Rattle.type_verifier.specs.Classes.{breaks_final_method}
+use Rattle.verify_rules.specs.Classes.{breaks_final_method}
 use Rattle.type_verifier.proofs.classes.some_method_breaks.Given as goal
 
 abbrev pub invariant-loop-m : goal.invariant-loop-m

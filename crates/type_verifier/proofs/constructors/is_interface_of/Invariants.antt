@@ -2,7 +2,7 @@ use Rattle.std.proofs.Common.{◌≡◌, length}
 use Rattle.std.specs.List.{filter_map, list_any}
 use Rattle.std.specs.Str.{bytes_eq}
 use Rattle.class_tree.specs.WellFormed.{class_name}
-use Rattle.class_record.specs.Trees.{interface_names}
+use Rattle.class_tree.specs.ClassNames.{interface_names}
 use Rattle.type_verifier.proofs.constructors.is_interface_of.Given as goal
 
 abbrev pub invariant-loop-rest : goal.invariant-loop-rest

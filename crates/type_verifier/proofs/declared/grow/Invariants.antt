@@ -1,5 +1,5 @@
 use Rattle.std.proofs.Common.{◌≡◌, length}
-use Rattle.type_verifier.specs.Walking.{SameNumbers}
+use Rattle.verify_rules.specs.Walking.{SameNumbers}
 use Rattle.type_verifier.proofs.declared.grow.Given as goal
 
 abbrev pub invariant-loop : goal.invariant-loop

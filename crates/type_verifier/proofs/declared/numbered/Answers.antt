@@ -1,6 +1,6 @@
 use Rattle.std.proofs.Common.{◌≡◌, ◌+◌, ◌-◌, ◌<◌, length, arith, get_or, ℕ, subst}
 use Rattle.std.proofs.lemmas.Option.{slice_get-get_or}
-use Rattle.type_verifier.specs.Walking.{Numbers}
+use Rattle.verify_rules.specs.Walking.{Numbers}
 use Rattle.type_verifier.proofs.Numbering.{none_numbered, one_numbered}
 use Rattle.type_verifier.proofs.declared.numbered.Goals as goal
 

@@ -1,4 +1,4 @@
-use Rattle.type_verifier.specs.Walking.{Numbers}
+use Rattle.verify_rules.specs.Walking.{Numbers}
 use Rattle.type_verifier.proofs.declared.numbered.Given as goal
 
 abbrev pub invariant-loop-k : goal.invariant-loop-k

@@ -1,6 +1,6 @@
 use Rattle.std.proofs.Common.{sym, arith}
 use Rattle.jsa_names.specs.Types.{field_shown}
-use Rattle.type_verifier.specs.Env.{vtypes_of}
+use Rattle.verify_rules.specs.Env.{vtypes_of}
 use Rattle.type_verifier.proofs.Parameters.{types_none, types_all, types_more, length_types}
 use Rattle.type_verifier.proofs.descriptors.vtypes.Goals as goal
 

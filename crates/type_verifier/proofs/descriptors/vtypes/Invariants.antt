@@ -1,6 +1,6 @@
 use Rattle.std.proofs.Common.{◌≡◌, ◌++◌, drop}
 use Rattle.std.specs.Prelude.{map}
-use Rattle.type_verifier.specs.Env.{vtype_of}
+use Rattle.verify_rules.specs.Env.{vtype_of}
 use Rattle.type_verifier.proofs.descriptors.vtypes.Given as goal
 
 abbrev pub invariant-loop-k : goal.invariant-loop-k

@@ -1,5 +1,5 @@
 use Rattle.std.proofs.Common.{length}
-use Rattle.type_verifier.specs.Fits.{locals_fit}
+use Rattle.verify_rules.specs.Fits.{locals_fit}
 use Rattle.type_verifier.proofs.Asked.{Leads}
 use Rattle.type_verifier.proofs.fits.locals_fit.Given as goal
 

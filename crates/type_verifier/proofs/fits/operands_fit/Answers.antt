@@ -2,7 +2,7 @@ use Rattle.std.proofs.Common.{◌≡◌, ◌+◌, ◌-◌, arith}
 use Rattle.std.specs.Prelude.{Ok, Err}
 use Rattle.type_verifier.proofs.Asked.{did_exit}
 use Rattle.type_verifier.proofs.FitLoops.{operands_on, operands_fail}
-use Rattle.type_verifier.specs.Fits.{operands_fit}
+use Rattle.verify_rules.specs.Fits.{operands_fit}
 use Rattle.type_verifier.proofs.fits.operands_fit.Goals as goal
 
 pub loop-k-preserved : goal.loop-k-preserved

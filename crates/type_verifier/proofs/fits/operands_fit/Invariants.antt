@@ -1,6 +1,6 @@
 use Rattle.std.proofs.Common.{drop, Ok}
-use Rattle.type_verifier.specs.Asking.{Did}
-use Rattle.type_verifier.specs.Fits.{operands_fit}
+use Rattle.verify_rules.specs.Asking.{Did}
+use Rattle.verify_rules.specs.Fits.{operands_fit}
 use Rattle.type_verifier.proofs.fits.operands_fit.Given as goal
 
 abbrev pub invariant-loop-k : goal.invariant-loop-k

@@ -1,6 +1,6 @@
 use Rattle.std.proofs.Common.{drop}
-use Rattle.type_verifier.specs.Asking.{each}
-use Rattle.type_verifier.specs.Flow.{handled}
+use Rattle.verify_rules.specs.Asking.{each}
+use Rattle.verify_rules.specs.Flow.{handled}
 use Rattle.type_verifier.proofs.Asked.{Leads}
 use Rattle.type_verifier.proofs.flow.all_handled.Given as goal
 

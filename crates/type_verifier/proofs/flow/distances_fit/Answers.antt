@@ -1,7 +1,7 @@
 use Rattle.std.proofs.Common.{rules, w32, FitsSigned}
 use Rattle.std.proofs.lemmas.Int.{to_z-of_z}
-use Rattle.type_verifier.specs.Asking.{each}
-use Rattle.type_verifier.specs.Flow.{target_fits, distances}
+use Rattle.verify_rules.specs.Asking.{each}
+use Rattle.verify_rules.specs.Flow.{target_fits, distances}
 use Rattle.type_verifier.proofs.Asked.{did_exit}
 use Rattle.type_verifier.proofs.Switches.{distances_more, distances_done, one_on, one_stop, all_done}
 use Rattle.type_verifier.proofs.flow.distances_fit.Goals as goal

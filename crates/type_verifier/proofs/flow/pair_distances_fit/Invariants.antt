@@ -1,6 +1,6 @@
 use Rattle.std.proofs.Common.{length}
-use Rattle.type_verifier.specs.Asking.{each}
-use Rattle.type_verifier.specs.Flow.{target_fits, pair_distances}
+use Rattle.verify_rules.specs.Asking.{each}
+use Rattle.verify_rules.specs.Flow.{target_fits, pair_distances}
 use Rattle.type_verifier.proofs.Asked.{Leads}
 use Rattle.type_verifier.proofs.flow.pair_distances_fit.Given as goal
 

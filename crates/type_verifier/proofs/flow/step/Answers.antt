@@ -1,6 +1,6 @@
 use Rattle.jsa_ops.specs.Instruction.{shown}
-use Rattle.verify_types.specs.Places.{Placed}
-use Rattle.type_verifier.specs.Flow.{step}
+use Rattle.verify_rules.specs.Places.{Placed}
+use Rattle.verify_rules.specs.Flow.{step}
 use Rattle.type_verifier.proofs.Asked.{did_exit}
 use Rattle.type_verifier.proofs.Stepping.{did_step, stopped_step}
 use Rattle.type_verifier.proofs.flow.step.Goals as goal

@@ -1,5 +1,5 @@
 use Rattle.std.proofs.Common.{◌≡◌, length}
-use Rattle.type_verifier.specs.Members.{from_named}
+use Rattle.verify_rules.specs.Members.{from_named}
 use Rattle.type_verifier.proofs.members.from_named.Given as goal
 
 abbrev pub invariant-loop-rest : goal.invariant-loop-rest

@@ -1,5 +1,5 @@
 use Rattle.std.proofs.Common.{◌≡◌, length}
-use Rattle.type_verifier.specs.Members.{is_far_in, field_flags}
+use Rattle.verify_rules.specs.Members.{is_far_in, field_flags}
 use Rattle.type_verifier.proofs.members.is_far_field.Given as goal
 
 abbrev pub invariant-loop-rest : goal.invariant-loop-rest

@@ -1,7 +1,7 @@
 use Rattle.std.proofs.Common.{arith, get_or}
 use Rattle.class_tree.specs.declared.tree.Handler.{Handler}
-use Rattle.type_verifier.specs.Asking.{each}
-use Rattle.type_verifier.specs.Methods.{catch_test}
+use Rattle.verify_rules.specs.Asking.{each}
+use Rattle.verify_rules.specs.Methods.{catch_test}
 use Rattle.type_verifier.proofs.Asked.{each_on, each_stop, each_end, did_exit}
 use Rattle.type_verifier.proofs.Stepping.{item_again}
 use Rattle.type_verifier.proofs.methods.all_catch.Goals as goal

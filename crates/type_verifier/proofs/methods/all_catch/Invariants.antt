@@ -1,6 +1,6 @@
 use Rattle.std.proofs.Common.{drop}
-use Rattle.type_verifier.specs.Asking.{each}
-use Rattle.type_verifier.specs.Methods.{catch_test}
+use Rattle.verify_rules.specs.Asking.{each}
+use Rattle.verify_rules.specs.Methods.{catch_test}
 use Rattle.type_verifier.proofs.Asked.{Leads}
 use Rattle.type_verifier.proofs.methods.all_catch.Given as goal
 

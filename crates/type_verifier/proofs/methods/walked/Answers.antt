@@ -1,7 +1,7 @@
 use Rattle.std.proofs.Common.{◌≤◌, length, sym, ◌∙◌, arith}
 use Rattle.jsa_ops.specs.Instruction.{shown}
-use Rattle.verify_types.specs.Places.{Placed, instructions}
-use Rattle.type_verifier.specs.Methods.{walked}
+use Rattle.verify_rules.specs.Places.{Placed, instructions}
+use Rattle.verify_rules.specs.Methods.{walked}
 use Rattle.type_verifier.proofs.Walks.{walk_on, walk_stop, walk_end}
 use Rattle.type_verifier.proofs.methods.walked.Goals as goal
 

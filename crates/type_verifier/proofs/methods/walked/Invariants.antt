@@ -1,6 +1,6 @@
 use Rattle.std.proofs.Common.{drop}
-use Rattle.verify_types.specs.Places.{instructions}
-use Rattle.type_verifier.specs.Methods.{walked}
+use Rattle.verify_rules.specs.Places.{instructions}
+use Rattle.verify_rules.specs.Methods.{walked}
 use Rattle.type_verifier.proofs.Walks.{Finding}
 use Rattle.type_verifier.proofs.methods.walked.Given as goal
 

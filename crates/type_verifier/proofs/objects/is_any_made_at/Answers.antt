@@ -3,8 +3,8 @@ use Rattle.std.specs.Prelude.{slice_get}
 use Rattle.std.specs.List.{list_any}
 use Rattle.std.proofs.lemmas.List.{drop_more}
 use Rattle.std.proofs.lemmas.Option.{slice_get_within, slice_get-get_or}
-use Rattle.verify_types.specs.declared.types.VType.{VType}
-use Rattle.verify_types.specs.Types.{is_made_at}
+use Rattle.verify_rules.specs.declared.types.VType.{VType}
+use Rattle.verify_rules.specs.Types.{is_made_at}
 use Rattle.type_verifier.proofs.objects.is_any_made_at.Goals as goal
 
 -- what is still to be looked through answers for the whole stack, and one type of it is looked at

@@ -1,5 +1,5 @@
 use Rattle.std.proofs.Common.{length}
-use Rattle.type_verifier.specs.Calls.{all_assign, operands}
+use Rattle.verify_rules.specs.Calls.{all_assign, operands}
 use Rattle.type_verifier.proofs.Deepest.{assign_on, assign_stop, assign_end, still_all}
 use Rattle.type_verifier.proofs.operands.operands_assign.Goals as goal
 

@@ -1,5 +1,5 @@
 use Rattle.std.proofs.Common.{length}
-use Rattle.type_verifier.specs.Calls.{all_assign, operands}
+use Rattle.verify_rules.specs.Calls.{all_assign, operands}
 use Rattle.type_verifier.proofs.Asked.{Leads}
 use Rattle.type_verifier.proofs.Deepest.{still}
 use Rattle.type_verifier.proofs.operands.operands_assign.Given as goal

@@ -1,4 +1,4 @@
-use Rattle.type_verifier.specs.Calls.{thrown}
+use Rattle.verify_rules.specs.Calls.{thrown}
 use Rattle.type_verifier.proofs.returns.thrown.Goals as goal
 
 pub returns : goal.returns

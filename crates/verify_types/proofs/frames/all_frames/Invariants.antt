@@ -1,5 +1,5 @@
 use Rattle.std.proofs.Common.{◌≡◌, drop, None}
-use Rattle.verify_types.specs.Frames.{frames_from}
+use Rattle.verify_rules.specs.Frames.{frames_from}
 use Rattle.verify_types.proofs.Building.{behind, place_bound}
 use Rattle.verify_types.proofs.frames.all_frames.Given as goal
 

@@ -1,5 +1,5 @@
 use Rattle.std.proofs.Common.{◌≡◌, length}
-use Rattle.verify_types.specs.Frames.{without_tail}
+use Rattle.verify_rules.specs.Frames.{without_tail}
 use Rattle.verify_types.proofs.frames.drop_tops.Given as goal
 
 abbrev pub invariant-loop : goal.invariant-loop

@@ -1,5 +1,5 @@
 use Rattle.std.proofs.Common.{◌≡◌, ◌++◌, replicate}
-use Rattle.verify_types.specs.declared.types.VType.TheVariants.{Top}
+use Rattle.verify_rules.specs.declared.types.VType.TheVariants.{Top}
 use Rattle.verify_types.proofs.frames.push_tops.Given as goal
 
 abbrev pub invariant-loop : goal.invariant-loop

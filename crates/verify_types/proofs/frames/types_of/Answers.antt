@@ -1,5 +1,5 @@
 use Rattle.std.proofs.lemmas.Result.{err_from_is_err_and}
-use Rattle.verify_types.specs.declared.written.WrittenType.TheVariants.{Top}
+use Rattle.verify_rules.specs.declared.written.WrittenType.TheVariants.{Top}
 use Rattle.verify_types.proofs.Building.{types_go_on, types_fail}
 use Rattle.verify_types.proofs.frames.types_of.Goals as goal
 

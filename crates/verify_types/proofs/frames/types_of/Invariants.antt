@@ -1,5 +1,5 @@
 use Rattle.std.proofs.Common.{◌≡◌, drop}
-use Rattle.verify_types.specs.Frames.{types_of}
+use Rattle.verify_rules.specs.Frames.{types_of}
 use Rattle.verify_types.proofs.Building.{behind}
 use Rattle.verify_types.proofs.frames.types_of.Given as goal
 

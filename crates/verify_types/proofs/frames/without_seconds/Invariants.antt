@@ -1,5 +1,5 @@
 use Rattle.std.proofs.Common.{◌≡◌, ◌++◌, drop, false}
-use Rattle.verify_types.specs.Frames.{without_seconds}
+use Rattle.verify_rules.specs.Frames.{without_seconds}
 use Rattle.verify_types.proofs.frames.without_seconds.Given as goal
 
 abbrev pub invariant-loop-t : goal.invariant-loop-t

@@ -1,5 +1,5 @@
 use Rattle.std.proofs.Common.{◌≡◌, ◌-◌, length}
-use Rattle.verify_types.specs.Places.{instructions_from}
+use Rattle.verify_rules.specs.Places.{instructions_from}
 use Rattle.verify_types.proofs.Marked.{Walks}
 use Rattle.verify_types.proofs.places.walked.Given as goal
 

@@ -1,6 +1,6 @@
 use Rattle.std.proofs.Common.{◌<◌, ◌^◌, length, true, false, sym, ◌∙◌, arith}
 use Rattle.vm_start.specs.Asked.{methods_at}
-use Rattle.vm_start.specs.Required.{is_initializer}
+use Rattle.class_record.specs.Required.{is_initializer}
 use Rattle.vm_start.proofs.Bounds.{has_few}
 use Rattle.vm_start.proofs.Searches.{any_none, any_past, any_at}
 use Rattle.vm_start.proofs.asked.has_initializer.Goals as goal

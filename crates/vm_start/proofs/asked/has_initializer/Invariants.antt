@@ -1,6 +1,6 @@
 use Rattle.std.proofs.Common.{◌≡◌, drop}
 use Rattle.std.specs.List.{list_any}
-use Rattle.vm_start.specs.Required.{is_initializer}
+use Rattle.class_record.specs.Required.{is_initializer}
 use Rattle.vm_start.specs.Asked.{methods_at}
 use Rattle.vm_start.proofs.asked.has_initializer.Given as goal
 

@@ -1,6 +1,6 @@
 use Rattle.std.proofs.Common.{◌≡◌, drop}
 use Rattle.std.specs.List.{list_any}
-use Rattle.vm_start.specs.Required.{is_wanted}
+use Rattle.class_record.specs.Required.{is_wanted}
 use Rattle.vm_start.specs.Table.{wanted_of}
 use Rattle.vm_start.specs.Asked.{fields_at}
 use Rattle.vm_start.proofs.asked.has_instance_field.Given as goal

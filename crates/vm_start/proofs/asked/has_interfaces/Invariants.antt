@@ -1,6 +1,6 @@
 use Rattle.std.proofs.Common.{◌≡◌, ◌≤◌, drop, length, map}
 use Rattle.class_record.specs.Facts.{interfaces_at}
-use Rattle.vm_start.specs.Required.{are_same}
+use Rattle.class_record.specs.Required.{are_same}
 use Rattle.vm_start.proofs.asked.has_interfaces.Given as goal
 
 abbrev pub invariant-loop-name : goal.invariant-loop-name

@@ -1,6 +1,6 @@
 use Rattle.std.proofs.Common.{◌≡◌, ◌++◌, drop}
 use Rattle.class_record.specs.Facts.{names_of}
-use Rattle.vm_start.specs.ClassList.{class_list}
+use Rattle.class_record.specs.ClassList.{class_list}
 use Rattle.vm_start.proofs.class_list.load_list.Given as goal
 
 -- what is written, and the lines that are left

@@ -1,6 +1,6 @@
 use Rattle.std.proofs.Common.{◌≤◌, rules, arith}
 use Rattle.vm_start.specs.Table.{row_of}
-use Rattle.vm_start.specs.Starting.{start}
+use Rattle.class_record.specs.Starting.{start}
 use Rattle.vm_start.proofs.Leading.{row_within, grown, told_on, told_end, told_stop, told_main}
 use Rattle.vm_start.proofs.LinkedClasses.{row_linked, rows_still, rows_end, taken_still}
 use Rattle.vm_start.proofs.starting.start_run.Goals as goal

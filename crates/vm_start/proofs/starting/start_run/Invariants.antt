@@ -1,8 +1,8 @@
 use Rattle.std.proofs.Common.{◌≡◌, ℕ, ◌++◌, ◌-◌, ◌<◌, ◌≤◌, List, length, true, Ok}
 use Rattle.class_record.specs.Worlds.{AsTold}
 use Rattle.class_record.specs.Facts.{Facts, names_of}
-use Rattle.vm_start.specs.declared.starting.Start.TheVariants as starts
-use Rattle.vm_start.specs.Starting.{LinksRequired}
+use Rattle.class_record.specs.declared.start.Start.TheVariants as starts
+use Rattle.class_record.specs.Starting.{LinksRequired}
 use Rattle.vm_start.specs.Steps.{Leads}
 use Rattle.vm_start.proofs.starting.start_run.Given as goal
 

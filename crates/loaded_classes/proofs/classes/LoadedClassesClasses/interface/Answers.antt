@@ -1,6 +1,6 @@
 use Rattle.std.proofs.Common.{List, slice_get, sym, subst}
 use Rattle.class_record.specs.Files.{Name}
-use Rattle.class_record.specs.Trees.{interface_names}
+use Rattle.class_tree.specs.ClassNames.{interface_names}
 use Rattle.class_record.specs.Calls.{IsClassBefore}
 use Rattle.loaded_classes.proofs.FactsKnown.{interfaces_known}
 use Rattle.loaded_classes.proofs.classes.LoadedClassesClasses.interface.Goals as goal

@@ -1,6 +1,6 @@
 use Rattle.std.proofs.Common.{Option, sym, subst}
 use Rattle.class_record.specs.Files.{Name}
-use Rattle.class_record.specs.Trees.{sup_name}
+use Rattle.class_tree.specs.ClassNames.{sup_name}
 use Rattle.class_record.specs.Calls.{IsClassBefore}
 use Rattle.loaded_classes.proofs.FactsKnown.{sup_known}
 use Rattle.loaded_classes.proofs.classes.LoadedClassesClasses.super_of.Goals as goal

@@ -1,6 +1,6 @@
 use Rattle.std.proofs.Common.{slice_get, sym, subst}
 use Rattle.class_record.specs.Files.{Name}
-use Rattle.class_record.specs.Trees.{own_name}
+use Rattle.class_tree.specs.ClassNames.{own_name}
 use Rattle.class_record.specs.Ancestors.{newest, superinterfaces_in}
 use Rattle.class_record.specs.Calls.{IsClassBefore}
 use Rattle.loaded_classes.proofs.FactsKnown.{name_known}

@@ -1,7 +1,7 @@
 use Rattle.std.proofs.Common.{◌≡◌, ◌+◌, ◌<◌, ℕ, List, Some, length, cond, sym, ap, subst, ◌∙◌}
 use Rattle.std.specs.Str.{bytes_eq}
 use Rattle.class_record.specs.Files.{Name}
-use Rattle.class_record.specs.Trees.{own_name}
+use Rattle.class_tree.specs.ClassNames.{own_name}
 use Rattle.class_record.specs.Facts.{names_of}
 use Rattle.loaded_classes.specs.declared.held.HeldClass.{HeldClass}
 use Rattle.loaded_classes.specs.Table.{added}

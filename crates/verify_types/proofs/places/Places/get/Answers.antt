@@ -1,5 +1,5 @@
 use Rattle.std.proofs.Common.{ℕ, List, slice_get, sym, ◌∙◌, ap}
-use Rattle.verify_types.specs.Places.{instructions}
+use Rattle.verify_rules.specs.Places.{instructions}
 use Rattle.verify_types.proofs.Marked.{is_kept, again, never_fails}
 use Rattle.verify_types.proofs.places.Places.get.Goals as goal
 

@@ -1,5 +1,5 @@
 use Rattle.std.proofs.Common.{ℕ, List, length, ◌∙◌, ap}
-use Rattle.verify_types.specs.Places.{instructions}
+use Rattle.verify_rules.specs.Places.{instructions}
 use Rattle.verify_types.proofs.Marked.{length-places}
 use Rattle.verify_types.proofs.places.Places.len.Goals as goal
 

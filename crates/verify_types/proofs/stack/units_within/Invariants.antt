@@ -1,6 +1,0 @@
-use Rattle.std.proofs.Common.{◌≡◌, ◌+◌, ◌≤◌, drop}
-use Rattle.verify_types.specs.Types.{units}
-use Rattle.verify_types.proofs.stack.units_within.Given as goal
-
-abbrev pub invariant-loop-t : goal.invariant-loop-t
-invariant-loop-t l = (l.taken + units (drop l.t-index l.types) ≡ units l.types) × (l.taken ≤ l.room)
