@@ -40,7 +40,7 @@ fn attribute<'a>(cursor: &mut Cursor<'a>) -> Result<Attribute<'a>, FormatFault>
     Ok(Attribute { name, content })
 }
 
-#[tactic(auto, using(crate::proofs::PartLoops::goes_on, crate::proofs::PartLoops::ends, crate::proofs::PartLoops::is_done))]
+#[tactic(auto, using(jsa_base::proofs::Loops::goes_on, crate::proofs::PartLoops::ends, jsa_base::proofs::Loops::is_done))]
 fn some_attributes<'a>(
     alloc: Global,
     count: u16,
@@ -89,7 +89,7 @@ fn member<'a>(alloc: Global, cursor: &mut Cursor<'a>) -> Result<Member<'a>, Form
     })
 }
 
-#[tactic(auto, using(crate::proofs::PartLoops::goes_on, crate::proofs::PartLoops::ends, crate::proofs::PartLoops::is_done))]
+#[tactic(auto, using(jsa_base::proofs::Loops::goes_on, crate::proofs::PartLoops::ends, jsa_base::proofs::Loops::is_done))]
 fn some_members<'a>(
     alloc: Global,
     count: u16,
@@ -137,7 +137,7 @@ fn handler(cursor: &mut Cursor<'_>) -> Result<Handler, FormatFault>
     })
 }
 
-#[tactic(auto, using(crate::proofs::PartLoops::goes_on, crate::proofs::PartLoops::ends, crate::proofs::PartLoops::is_done))]
+#[tactic(auto, using(jsa_base::proofs::Loops::goes_on, crate::proofs::PartLoops::ends, jsa_base::proofs::Loops::is_done))]
 fn some_handlers(
     alloc: Global,
     count: u16,
@@ -161,7 +161,7 @@ fn handlers(alloc: Global, cursor: &mut Cursor<'_>) -> Result<Items<Handler>, Fo
     some_handlers(alloc, count, cursor)
 }
 
-#[tactic(auto, using(crate::proofs::PartLoops::goes_on, crate::proofs::PartLoops::ends, crate::proofs::PartLoops::is_done))]
+#[tactic(auto, using(jsa_base::proofs::Loops::goes_on, crate::proofs::PartLoops::ends, jsa_base::proofs::Loops::is_done))]
 fn some_indices(
     alloc: Global,
     count: u16,

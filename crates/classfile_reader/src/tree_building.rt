@@ -7,7 +7,7 @@ ghost use Rattle.classfile_reader.specs.PartAnswers.{Builds, BuildsMembers, kept
 
 use crate::class_parts::{Attribute, ClassParts, CodeParts, Member};
 use crate::class_reading::whole_code;
-use class_tree::{ClassTree, CodeTree, FieldTree, FormatFault, MethodTree, Pool, has_flag};
+use class_tree::{ClassTree, CodeTree, FieldTree, FormatFault, MethodTree, Pool, is_static};
 use jsa_base::Cursor;
 use sqlite_items::Items;
 use std::alloc::Global;
@@ -101,7 +101,7 @@ fn value(content: Option<&[u8]>) -> Result<u16, FormatFault>
 fn constant<'a>(pool: &Pool, member: &Member<'a>) -> Result<Option<&'a [u8]>, FormatFault>
     ensures { Builds (λ o. option_map (λ c. c.now) o) result (trees.constant_of pool.now member.now) }
 {
-    if has_flag(member.flags, 0x0008) {
+    if is_static(member.flags) {
         content_of(pool, b"ConstantValue", member.attributes.as_slice())
     } else {
         Ok(None)

@@ -1,5 +1,5 @@
 -- What a run says of the store and of out, once its class list is written.
-use Rattle.std.proofs.Common.{◌≡◌, ◌≢◌, ◌⊎◌, ℕ, List, [], Option, Some, None, refl, ap, subst, ◌∙◌, inl, inr, arith}
+use Rattle.std.proofs.Common.{◌≡◌, ◌≢◌, ◌⊎◌, ℕ, Bool, List, [], Option, Some, None, refl, ap, subst, ◌∙◌, inl, inr, arith}
 use Rattle.std.specs.FinMap.{insert}
 use Rattle.std.specs.Option.{option_map}
 use Rattle.jsa_files.specs.Store.{Contents, Store}
@@ -8,20 +8,21 @@ use Rattle.class_record.specs.Files.{Name}
 use Rattle.class_record.specs.Worlds.{World}
 use Rattle.class_record.specs.Calls.{Progress}
 use Rattle.class_linker.specs.Fresh.{world_in, reads_in}
-use Rattle.vm_start.specs.Starting.{StartEnd}
-use Rattle.vm_start.specs.ClassList.{class_list}
+use Rattle.class_record.specs.Starting.{StartEnd}
+use Rattle.class_record.specs.ClassList.{class_list}
 use Rattle.home_run.specs.declared.end.HomeEnd.{HomeEnd}
 use Rattle.home_run.specs.declared.end.HomeEnd.TheVariants as ended
-use Rattle.home_run.specs.Requests.{HomeRequest, folder_lists, run_files, load_order}
+use Rattle.command_words.specs.HomeWords.{HomeRequest}
+use Rattle.home_run.specs.Requests.{folder_lists, run_files, load_order}
 use Rattle.jsa_files.proofs.Taken.{front_of_whole}
-use Rattle.classfile_reader.specs.declared.program.Program.{Program}
-use Rattle.vm_run.specs.declared.machine.End.{End}
-use Rattle.home_run.specs.Answers.{Runs, Begins, final, Starts, Answers, AnswersUntold, AnswersRun, contents_told, reads_told, with_list, CountsWrites}
+use Rattle.first_form.specs.Runs.{Run, Runs, Begins}
+use Rattle.jsa_files.specs.Told.{contents_told, reads_told}
+use Rattle.home_run.specs.Answers.{Starts, Answers, AnswersUntold, AnswersRun, with_list, CountsWrites}
 use Rattle.home_run.specs.Steps.{Comes, ClassesAnswer, ClassesAnswerOf, ListAnswers, FailsToList, CountsPuts, CountsList}
 
 -- A run that exited puts a front of what it puts.
-begins_of : {P : Program → Type 0} {steps : ℕ} {end : Option End} {before after : Option (List ℕ)} → Runs P steps end before after → Begins P steps before after
-begins_of {P} {steps} {end} {before} {after} r = record { program = r.program; of = r.of; out = front_of_whole before after (final r.program steps).out r.out }
+begins_of : {P : Run → Type 0} {steps : ℕ} {returned : Bool} {before after : Option (List ℕ)} → Runs P steps returned before after → Begins P steps before after
+begins_of {P} {steps} {returned} {before} {after} r = record { run = r.run; of = r.of; out = front_of_whole before after (r.run steps).out r.out }
 
 -- ---- the state of the store between the run and its list
 

@@ -1,5 +1,5 @@
--- The program of the main class, by its tree.
-use Rattle.std.proofs.Common.{◌≡◌, ℕ, List, Bool, true, false, if◌then◌else◌, Option, Some, None, refl, sym, ap, subst, ◌∙◌, inl, inr}
+-- The run of the main class, by its tree.
+use Rattle.std.proofs.Common.{◌≡◌, ℕ, List, Bool, true, false, if◌then◌else◌, Option, Some, None, refl, ap, subst, ◌∙◌, inl, inr}
 use Rattle.std.specs.Prelude.{⊤}
 use Rattle.std.specs.Option.{option_map}
 use Rattle.jsa_base.specs.Reading.{◌>>=◌, Read, when, all_read}
@@ -17,12 +17,11 @@ use Rattle.class_record.specs.Readings.{Reading, IsClass, OtherVersion, NotClass
 use Rattle.class_record.specs.Loading.{FoundClass, found_in, class_of}
 use Rattle.class_linker.specs.Fresh.{world_in}
 use Rattle.class_linker.specs.Rights as rights
-use Rattle.classfile_reader.specs.declared.program.Program.{Program}
-use Rattle.classfile_reader.specs.Program.{program_of}
+use Rattle.first_form.specs.Runs.{Run, run_of, HasRun, HasNoRun, IsSomeRun}
 use Rattle.home_run.specs.declared.end.HomeEnd.{HomeEnd}
 use Rattle.home_run.specs.declared.end.HomeEnd.TheVariants as ended
-use Rattle.home_run.specs.Answers.{HasProgram, HasNoProgram, SomeProgram}
-use Rattle.home_run.specs.Steps.{OfTree, HasNone, ProgramAnswers, MainAnswers}
+use Rattle.home_run.specs.Answers.{MainHasRun, MainHasNoRun}
+use Rattle.home_run.specs.Steps.{MainAnswersAs, MainAnswers}
 
 -- ---- a tree that was read breaks no rule of form
 
@@ -81,35 +80,31 @@ in_found p name tree (Some file) is e = in_file p name tree file (reading_of fil
 of_name : (p : RunFiles) (name : Name) (tree : ClassTree) → rights.tree_of p name ≡ Some tree → Found p name tree
 of_name p name tree e = in_found p name tree (file_of p App name) refl e
 
--- ---- its program
+-- ---- its run
 
-program : (p : RunFiles) (name : Name) (tree : ClassTree) → Found p name tree → (q : Program) → OfTree tree q → HasProgram p name q
-program p name tree f q of = record { class = f.class; found = f.found; form = ap program_of f.is ∙ of.1 }
+main_run : (p : RunFiles) (name : Name) (tree : ClassTree) → Found p name tree → (run : Run) → HasRun tree run → MainHasRun p name run
+main_run p name tree f run has = record { class = f.class; found = f.found; run_is = ap run_of f.is ∙ has.1 }
 
-no_program : (p : RunFiles) (name : Name) (tree : ClassTree) → Found p name tree → HasNone tree → HasNoProgram p name
-no_program p name tree f none = record { class = f.class; found = f.found; other = ap program_of f.is ∙ none f.formed }
+no_main_run : (p : RunFiles) (name : Name) (tree : ClassTree) → Found p name tree → HasNoRun tree → MainHasNoRun p name
+no_main_run p name tree f none = record { class = f.class; found = f.found; none = ap run_of f.is ∙ none f.formed }
 
-runs_as : (P Q : Program → Type 0) (A B : Type 0) (steps : ℕ) (before after : Option (List ℕ)) (end : HomeEnd) → ((q : Program) → P q → Q q) → (A → B) → ProgramAnswers P A steps before after end → ProgramAnswers Q B steps before after end
-runs_as P Q A B steps before after ended.Exit f g h = record { program = h.program; of = f h.program h.of; ends = h.ends; out = h.out }
-runs_as P Q A B steps before after ended.Stopped f g h = record { program = h.program; of = f h.program h.of; ends = h.ends; out = h.out }
+runs_as : (P Q : Run → Type 0) (A B : Type 0) (steps : ℕ) (before after : Option (List ℕ)) (end : HomeEnd) → ((run : Run) → P run → Q run) → (A → B) → MainAnswersAs P A steps before after end → MainAnswersAs Q B steps before after end
+runs_as P Q A B steps before after ended.Exit f g h = record { run = h.run; of = f h.run h.of; returns = h.returns; out = h.out }
+runs_as P Q A B steps before after ended.Stopped f g h = record { run = h.run; of = f h.run h.of; returns = h.returns; out = h.out }
 runs_as P Q A B steps before after ended.Unsupported f g h = (g h.0, h.1)
-runs_as P Q A B steps before after ended.Write f g h = record { program = h.program; of = f h.program h.of; out = h.out }
+runs_as P Q A B steps before after ended.Write f g h = record { run = h.run; of = f h.run h.of; out = h.out }
 runs_as P Q A B steps before after ended.Memory f g (inl h) = inl h
-runs_as P Q A B steps before after ended.Memory f g (inr h) = inr (record { program = h.program; of = f h.program h.of; out = h.out })
+runs_as P Q A B steps before after ended.Memory f g (inr h) = inr (record { run = h.run; of = f h.run h.of; out = h.out })
 runs_as P Q A B steps before after (ended.NoBoot number) f g h = absurd h
 runs_as P Q A B steps before after ended.NoMain f g h = absurd h
 runs_as P Q A B steps before after ended.Read f g h = absurd h
 runs_as P Q A B steps before after (ended.Limit quantity limit) f g h = absurd h
 
--- What the run of the tree's program answers is what the main class's run does.
+-- What the run of the tree answers is what the main class's run does.
 pub main_answers : (store : Option Store) (folders : FolderLists) (name : Name) (tree : ClassTree) (steps : ℕ) (before after : Option (List ℕ)) (end : HomeEnd)
-    → rights.ForFiles store folders (λ p. rights.tree_of p name ≡ Some tree) → ProgramAnswers (OfTree tree) (HasNone tree) steps before after end → MainAnswers (world_in store folders) name steps before after end
-main_answers None folders name tree steps before after end told h = runs_as (OfTree tree) SomeProgram (HasNone tree) ⊤ steps before after end (λ q of. tt) (λ none. tt) h
+    → rights.ForFiles store folders (λ p. rights.tree_of p name ≡ Some tree) → MainAnswersAs (HasRun tree) (HasNoRun tree) steps before after end → MainAnswers (world_in store folders) name steps before after end
+main_answers None folders name tree steps before after end told h = runs_as (HasRun tree) IsSomeRun (HasNoRun tree) ⊤ steps before after end (λ run has. (tree, has)) (λ none. tt) h
 main_answers (Some store) folders name tree steps before after end told h =
     let p = rights.files_in store folders in
     let f = of_name p name tree told in
-    runs_as (OfTree tree) (HasProgram p name) (HasNone tree) (HasNoProgram p name) steps before after end (program p name tree f) (no_program p name tree f) h
-
--- the run of one program is that of a program of this kind
-pub of_one : (P : Program → Type 0) (A : Type 0) (q : Program) (steps : ℕ) (before after : Option (List ℕ)) (end : HomeEnd) → P q → ProgramAnswers (λ p. p ≡ q) ⊥ steps before after end → ProgramAnswers P A steps before after end
-of_one P A q steps before after end h r = runs_as (λ p. p ≡ q) P ⊥ A steps before after end (λ p e. subst P (sym e) h) (λ none. absurd none) r
+    runs_as (HasRun tree) (MainHasRun p name) (HasNoRun tree) (MainHasNoRun p name) steps before after end (main_run p name tree f) (no_main_run p name tree f) h

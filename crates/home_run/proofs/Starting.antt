@@ -11,9 +11,9 @@ use Rattle.class_record.specs.Files.{Name}
 use Rattle.class_record.specs.Facts.{Facts, names_of, name_at}
 use Rattle.class_record.specs.Worlds.{AsTold, World, world_of_files}
 use Rattle.class_record.specs.Calls.{Progress, NamesLimit, CountsRead}
-use Rattle.vm_start.specs.declared.starting.Start.{Start}
-use Rattle.vm_start.specs.declared.starting.Start.TheVariants as starts
-use Rattle.vm_start.specs.Starting.{AnswersStart, NamesClass, Ready}
+use Rattle.class_record.specs.declared.start.Start.{Start}
+use Rattle.class_record.specs.declared.start.Start.TheVariants as starts
+use Rattle.class_record.specs.Starting.{AnswersStart, NamesClass, Ready}
 use Rattle.home_run.specs.declared.end.HomeEnd.{HomeEnd}
 use Rattle.home_run.specs.declared.end.HomeEnd.TheVariants as ended
 use Rattle.home_run.specs.Answers.{CountsReads}

@@ -1,56 +1,36 @@
 -- What a run over a home answers, and what it leaves.
-use Rattle.std.specs.Prelude.{◌≡◌, ◌⊎◌, ◌≤◌, ℕ, List, [], ◌++◌, length, Option, Some, None, ⊤}
+use Rattle.std.specs.Prelude.{◌≡◌, ◌⊎◌, ◌≤◌, ℕ, List, [], ◌++◌, length, true, false, Option, Some, None}
 use Rattle.std.specs.FinMap.{insert}
 use Rattle.std.specs.Option.{option_map}
 use Rattle.jsa_files.specs.Causes.{Rose}
 use Rattle.jsa_files.specs.Store.{Contents, Store}
-use Rattle.jsa_files.specs.Sinks.{GrowsBy, GrowsByFront}
+use Rattle.jsa_files.specs.Told.{contents_told, reads_told}
 use Rattle.loader_rules.specs.declared.loader.Loader.TheVariants.{App}
 use Rattle.class_record.specs.Files.{Name, RunFiles}
 use Rattle.class_record.specs.Loading.{FoundClass, class_of}
 use Rattle.class_record.specs.Calls.{passed, IsLimit}
-use Rattle.classfile_reader.specs.declared.program.Program.{Program}
-use Rattle.classfile_reader.specs.Program.{program_of}
-use Rattle.vm_run.specs.declared.machine.End.{End}
-use Rattle.vm_run.specs.declared.machine.End.TheVariants as ends
-use Rattle.vm_run.specs.Machine.{State, state_after, start}
-use Rattle.vm_start.specs.Required.{required}
-use Rattle.vm_start.specs.Starting.{StartEnd, NoBoot, NoMain, Ready}
-use Rattle.vm_start.specs.ClassList.{class_list}
+use Rattle.first_form.specs.Runs.{Run, run_of, Runs, Begins, IsSomeRun}
+use Rattle.class_record.specs.Required.{required}
+use Rattle.class_record.specs.Starting.{StartEnd, NoBoot, NoMain, Ready}
+use Rattle.class_record.specs.ClassList.{class_list}
 use Rattle.home_run.specs.declared.end.HomeEnd.{HomeEnd}
 use Rattle.home_run.specs.declared.end.HomeEnd.TheVariants as ended
-use Rattle.home_run.specs.Requests.{HomeRequest, run_files, run_world, started, load_order, paths_read}
+use Rattle.command_words.specs.HomeWords.{HomeRequest}
+use Rattle.home_run.specs.Requests.{run_files, run_world, started, load_order, paths_read}
 
--- ---- the program
+-- ---- the main class
 
--- the state of a program's run after so many turns
-abbrev pub final : Program → ℕ → State
-final program steps = state_after program steps start
-
--- A program of this kind runs so many turns and has this end then, or none, and out took what it puts.
-pub record Runs (Of : Program → Type 0) (steps : ℕ) (end : Option End) (before after : Option (List ℕ)) : Type 0 where
-  pub program : Program
-  pub of : Of program
-  pub ends : (final program steps).end ≡ end
-  pub out : GrowsBy before after (final program steps).out
-
--- Out took a front of what such a program puts in so many turns.
-pub record Begins (Of : Program → Type 0) (steps : ℕ) (before after : Option (List ℕ)) : Type 0 where
-  pub program : Program
-  pub of : Of program
-  pub out : GrowsByFront before after (final program steps).out
-
--- The class that is found for the name is of the first form, with this program.
-pub record HasProgram (p : RunFiles) (name : Name) (program : Program) : Type 0 where
+-- The class that is found for the name has this run.
+pub record MainHasRun (p : RunFiles) (name : Name) (run : Run) : Type 0 where
   pub class : FoundClass
   pub found : class_of p App name ≡ Some class
-  pub form : program_of class.tree ≡ Some program
+  pub run_is : run_of class.tree ≡ Some run
 
--- It isn't of the first form.
-pub record HasNoProgram (p : RunFiles) (name : Name) : Type 0 where
+-- It has none.
+pub record MainHasNoRun (p : RunFiles) (name : Name) : Type 0 where
   pub class : FoundClass
   pub found : class_of p App name ≡ Some class
-  pub other : program_of class.tree ≡ None
+  pub none : run_of class.tree ≡ None
 
 -- ---- the start
 
@@ -84,12 +64,12 @@ pub record FailsList (contents : Contents) (new : Option Contents) (faults : ℕ
 -- given before and now.
 abbrev pub Answers : Contents → Option Contents → ℕ × ℕ → Option (List (List ℕ)) → Option (List (List ℕ)) → HomeRequest → Option (List ℕ) → Option (List ℕ) → HomeEnd → Type 0
 Answers contents new faults old_reads new_reads r before after ended.Exit =
-    Starts contents r Ready old_reads new_reads × Runs (HasProgram (run_files contents r) r.name) r.steps (Some ends.Exit) before after
+    Starts contents r Ready old_reads new_reads × Runs (MainHasRun (run_files contents r) r.name) r.steps true before after
     × (new ≡ Some (with_list r.list (class_list (load_order contents r)) contents))
 Answers contents new faults old_reads new_reads r before after ended.Stopped =
-    Starts contents r Ready old_reads new_reads × Runs (HasProgram (run_files contents r) r.name) r.steps None before after × (new ≡ Some contents)
+    Starts contents r Ready old_reads new_reads × Runs (MainHasRun (run_files contents r) r.name) r.steps false before after × (new ≡ Some contents)
 Answers contents new faults old_reads new_reads r before after ended.Unsupported =
-    Starts contents r Ready old_reads new_reads × HasNoProgram (run_files contents r) r.name × (after ≡ before) × (new ≡ Some contents)
+    Starts contents r Ready old_reads new_reads × MainHasNoRun (run_files contents r) r.name × (after ≡ before) × (new ≡ Some contents)
 Answers contents new faults old_reads new_reads r before after (ended.NoBoot number) =
     Starts contents r (NoBoot number) old_reads new_reads × (after ≡ before) × (new ≡ Some contents)
 Answers contents new faults old_reads new_reads r before after ended.NoMain =
@@ -99,31 +79,22 @@ Answers contents new faults old_reads new_reads r before after (ended.Limit quan
 Answers contents new faults old_reads new_reads r before after ended.Read = (after ≡ before) × (new ≡ Some contents)
 Answers contents new faults old_reads new_reads r before after ended.Write =
     Starts contents r Ready old_reads new_reads
-    × ((Begins (HasProgram (run_files contents r) r.name) r.steps before after × (new ≡ Some contents))
-    ⊎ (Runs (HasProgram (run_files contents r) r.name) r.steps (Some ends.Exit) before after × FailsList contents new faults r))
+    × ((Begins (MainHasRun (run_files contents r) r.name) r.steps before after × (new ≡ Some contents))
+    ⊎ (Runs (MainHasRun (run_files contents r) r.name) r.steps true before after × FailsList contents new faults r))
 Answers contents new faults old_reads new_reads r before after ended.Memory =
-    ((after ≡ before) ⊎ (Starts contents r Ready old_reads new_reads × Begins (HasProgram (run_files contents r) r.name) r.steps before after)) × (new ≡ Some contents)
+    ((after ≡ before) ⊎ (Starts contents r Ready old_reads new_reads × Begins (MainHasRun (run_files contents r) r.name) r.steps before after)) × (new ≡ Some contents)
 
--- Where they aren't: what goes to out is what some program puts.
-abbrev pub SomeProgram : Program → Type 0
-SomeProgram program = ⊤
-
+-- Where they aren't: what goes to out is what the run of some class puts.
 abbrev pub AnswersUntold : HomeRequest → Option (List ℕ) → Option (List ℕ) → HomeEnd → Type 0
-AnswersUntold r before after ended.Exit = Runs SomeProgram r.steps (Some ends.Exit) before after
-AnswersUntold r before after ended.Stopped = Runs SomeProgram r.steps None before after
+AnswersUntold r before after ended.Exit = Runs IsSomeRun r.steps true before after
+AnswersUntold r before after ended.Stopped = Runs IsSomeRun r.steps false before after
 AnswersUntold r before after ended.Unsupported = after ≡ before
 AnswersUntold r before after (ended.NoBoot number) = (1 ≤ number) × (number ≤ length required) × (after ≡ before)
 AnswersUntold r before after ended.NoMain = after ≡ before
 AnswersUntold r before after (ended.Limit quantity limit) = IsLimit quantity limit × (after ≡ before)
 AnswersUntold r before after ended.Read = after ≡ before
-AnswersUntold r before after ended.Write = Begins SomeProgram r.steps before after
-AnswersUntold r before after ended.Memory = (after ≡ before) ⊎ Begins SomeProgram r.steps before after
-
-abbrev pub contents_told : Option Store → Option Contents
-contents_told store = option_map (λ s. s.contents) store
-
-abbrev pub reads_told : Option Store → Option (List (List ℕ))
-reads_told store = option_map (λ s. s.reads) store
+AnswersUntold r before after ended.Write = Begins IsSomeRun r.steps before after
+AnswersUntold r before after ended.Memory = (after ≡ before) ⊎ Begins IsSomeRun r.steps before after
 
 abbrev pub AnswersBy : Option Contents → Option Contents → ℕ × ℕ → Option (List (List ℕ)) → Option (List (List ℕ)) → HomeRequest → Option (List ℕ) → Option (List ℕ) → HomeEnd → Type 0
 AnswersBy None new faults old_reads new_reads r before after ended = AnswersUntold r before after ended × (new ≡ None)

@@ -1,28 +1,14 @@
--- What a run over a home is asked for, and where its classes come from.
-use Rattle.std.specs.Prelude.{ℕ, List, [], ◌∷◌, ◌++◌, map, Option, codes}
+-- Where the classes of a run over a home come from.
+use Rattle.std.specs.Prelude.{ℕ, List, [], ◌∷◌, ◌++◌, codes}
 use Rattle.std.specs.List.{filter_map}
-use Rattle.std.specs.Option.{option_map}
-use Rattle.std.specs.String.{string_bytes}
 use Rattle.jsa_files.specs.Store.{Contents}
 use Rattle.loader_rules.specs.Lists.{FolderLists}
 use Rattle.class_record.specs.Files.{Name, RunFiles}
 use Rattle.class_record.specs.Loading.{begun_in, order_after}
 use Rattle.class_record.specs.Worlds.{ClassWorld, world_of_files}
 use Rattle.class_record.specs.Calls.{newly}
-use Rattle.vm_start.specs.Starting.{Started, start}
-use Rattle.home_run.specs.declared.request.HomeRun.{HomeRun}
-
--- The home, the application folders, the file for the names of the loaded classes, the limit of turns, and the internal name
--- of the main class (JVMS 4.2.1).
-pub record HomeRequest : Type 0 where
-  pub home : List ℕ
-  pub folders : List (List ℕ)
-  pub list : Option (List ℕ)
-  pub steps : ℕ
-  pub name : Name
-
-abbrev pub request_view : HomeRun → HomeRequest
-request_view r = record { home = string_bytes r.home; folders = map string_bytes r.folders.items; list = option_map string_bytes r.list; steps = r.steps; name = r.name.items }
+use Rattle.class_record.specs.Starting.{Started, start}
+use Rattle.command_words.specs.HomeWords.{HomeRequest}
 
 -- The boot folder and the platform folder are the home's.
 abbrev pub folder_lists : HomeRequest → FolderLists
@@ -39,7 +25,7 @@ run_world contents r = world_of_files (run_files contents r)
 abbrev pub started : Contents → HomeRequest → Started
 started contents r = start (run_world contents r) r.name
 
--- the loaded classes in load order: a main class of the first form loads no further ones
+-- the loaded classes in load order: no main class that is run yet loads further ones
 abbrev pub load_order : Contents → HomeRequest → List Name
 load_order contents r = order_after [] (started contents r).events
 

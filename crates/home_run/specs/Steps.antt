@@ -1,12 +1,10 @@
 -- What the steps of a run leave to one another. No public contract cites these.
-use Rattle.std.specs.Prelude.{◌≡◌, ◌⊎◌, ◌≤◌, ℕ, List, ◌++◌, length, IsTrue, Option, Some, None, ⊤}
+use Rattle.std.specs.Prelude.{◌≡◌, ◌⊎◌, ◌≤◌, ℕ, List, ◌++◌, length, true, false, Option, Some, None, ⊤}
 use Rattle.std.specs.FinMap.{insert}
 use Rattle.std.specs.Option.{option_map}
 use Rattle.jsa_files.specs.Causes.{Rose}
 use Rattle.jsa_files.specs.Store.{Contents, Store}
 use Rattle.loader_rules.specs.Lists.{FolderLists}
-use Rattle.class_tree.specs.declared.tree.ClassTree.{ClassTree}
-use Rattle.class_tree.specs.WellFormed.{is_well_formed}
 use Rattle.class_record.specs.declared.fault.ClassesFault.{ClassesFault}
 use Rattle.class_record.specs.declared.fault.ClassesFault.TheVariants as faults
 use Rattle.class_record.specs.Files.{Name, RunFiles}
@@ -15,49 +13,40 @@ use Rattle.class_record.specs.Worlds.{World, world_of_files}
 use Rattle.class_record.specs.Calls.{Progress, Leaves, passed, IsLimit}
 use Rattle.class_linker.specs.Fresh.{FreshView, reads_in}
 use Rattle.class_linker.specs.Kept.{names_read}
-use Rattle.classfile_reader.specs.declared.program.Program.{Program}
-use Rattle.classfile_reader.specs.Program.{program_of}
-use Rattle.vm_run.specs.declared.machine.End.TheVariants as ends
-use Rattle.vm_start.specs.Required.{required}
-use Rattle.vm_start.specs.Starting.{StartEnd, NoBoot, NoMain, Ready, start}
+use Rattle.first_form.specs.Runs.{Run, Runs, Begins, IsSomeRun}
+use Rattle.class_record.specs.Required.{required}
+use Rattle.class_record.specs.Starting.{StartEnd, NoBoot, NoMain, Ready, start}
 use Rattle.home_run.specs.declared.end.HomeEnd.{HomeEnd}
 use Rattle.home_run.specs.declared.end.HomeEnd.TheVariants as ended
-use Rattle.home_run.specs.Answers.{Runs, Begins, HasProgram, HasNoProgram, SomeProgram, with_list}
+use Rattle.home_run.specs.Answers.{MainHasRun, MainHasNoRun, with_list}
 
 abbrev pub files_of : Contents → FolderLists → RunFiles
 files_of contents folders = record { contents = contents; folders = folders }
 
--- ---- the program of a class
+-- ---- the run of the main class
 
--- the program of a tree, which breaks no rule of form
-abbrev pub OfTree : ClassTree → Program → Type 0
-OfTree tree program = IsTrue (is_well_formed tree) × (program_of tree ≡ Some program)
-
-abbrev pub HasNone : ClassTree → Type 0
-HasNone tree = IsTrue (is_well_formed tree) → program_of tree ≡ None
-
--- What the run of such a program answers, or that there is none.
-abbrev pub ProgramAnswers : (Program → Type 0) → Type 0 → ℕ → Option (List ℕ) → Option (List ℕ) → HomeEnd → Type 0
-ProgramAnswers Of Other steps before after ended.Exit = Runs Of steps (Some ends.Exit) before after
-ProgramAnswers Of Other steps before after ended.Stopped = Runs Of steps None before after
-ProgramAnswers Of Other steps before after ended.Unsupported = Other × (after ≡ before)
-ProgramAnswers Of Other steps before after ended.Write = Begins Of steps before after
-ProgramAnswers Of Other steps before after ended.Memory = (after ≡ before) ⊎ Begins Of steps before after
-ProgramAnswers Of Other steps before after (ended.NoBoot number) = ⊥
-ProgramAnswers Of Other steps before after ended.NoMain = ⊥
-ProgramAnswers Of Other steps before after ended.Read = ⊥
-ProgramAnswers Of Other steps before after (ended.Limit quantity limit) = ⊥
+-- What a run of this kind answers, or that there is none.
+abbrev pub MainAnswersAs : (Run → Type 0) → Type 0 → ℕ → Option (List ℕ) → Option (List ℕ) → HomeEnd → Type 0
+MainAnswersAs Of Other steps before after ended.Exit = Runs Of steps true before after
+MainAnswersAs Of Other steps before after ended.Stopped = Runs Of steps false before after
+MainAnswersAs Of Other steps before after ended.Unsupported = Other × (after ≡ before)
+MainAnswersAs Of Other steps before after ended.Write = Begins Of steps before after
+MainAnswersAs Of Other steps before after ended.Memory = (after ≡ before) ⊎ Begins Of steps before after
+MainAnswersAs Of Other steps before after (ended.NoBoot number) = ⊥
+MainAnswersAs Of Other steps before after ended.NoMain = ⊥
+MainAnswersAs Of Other steps before after ended.Read = ⊥
+MainAnswersAs Of Other steps before after (ended.Limit quantity limit) = ⊥
 
 -- of the class file that is found for a name, where the files are told
 abbrev pub MainAnswersOf : FolderLists → Option Contents → Name → ℕ → Option (List ℕ) → Option (List ℕ) → HomeEnd → Type 0
-MainAnswersOf folders None name steps before after end = ProgramAnswers SomeProgram ⊤ steps before after end
+MainAnswersOf folders None name steps before after end = MainAnswersAs IsSomeRun ⊤ steps before after end
 MainAnswersOf folders (Some contents) name steps before after end =
-    ProgramAnswers (HasProgram (files_of contents folders) name) (HasNoProgram (files_of contents folders) name) steps before after end
+    MainAnswersAs (MainHasRun (files_of contents folders) name) (MainHasNoRun (files_of contents folders) name) steps before after end
 
 abbrev pub MainAnswers : World → Name → ℕ → Option (List ℕ) → Option (List ℕ) → HomeEnd → Type 0
 MainAnswers w name steps before after end = MainAnswersOf w.folders w.contents name steps before after end
 
--- the count of out's puts that failed, in the run of a program
+-- the count of out's puts that failed, in the run of the main class
 abbrev pub CountsPuts : ℕ → ℕ → HomeEnd → Type 0
 CountsPuts before now ended.Write = (before ≤ now) × Rose before now
 CountsPuts before now ended.Memory = before ≤ now
@@ -77,11 +66,11 @@ pub record Comes (p : RunFiles) (name : Name) (end : StartEnd) (a b : Progress) 
   pub leaves : Leaves (world_of_files p) (start (world_of_files p) name).events a b
 
 abbrev pub RunAnswers : RunFiles → Name → ℕ → Progress → Progress → Option (List ℕ) → Option (List ℕ) → HomeEnd → Type 0
-RunAnswers p name steps a b before after ended.Exit = Comes p name Ready a b × Runs (HasProgram p name) steps (Some ends.Exit) before after
-RunAnswers p name steps a b before after ended.Stopped = Comes p name Ready a b × Runs (HasProgram p name) steps None before after
-RunAnswers p name steps a b before after ended.Unsupported = Comes p name Ready a b × HasNoProgram p name × (after ≡ before)
-RunAnswers p name steps a b before after ended.Write = Comes p name Ready a b × Begins (HasProgram p name) steps before after
-RunAnswers p name steps a b before after ended.Memory = (after ≡ before) ⊎ (Comes p name Ready a b × Begins (HasProgram p name) steps before after)
+RunAnswers p name steps a b before after ended.Exit = Comes p name Ready a b × Runs (MainHasRun p name) steps true before after
+RunAnswers p name steps a b before after ended.Stopped = Comes p name Ready a b × Runs (MainHasRun p name) steps false before after
+RunAnswers p name steps a b before after ended.Unsupported = Comes p name Ready a b × MainHasNoRun p name × (after ≡ before)
+RunAnswers p name steps a b before after ended.Write = Comes p name Ready a b × Begins (MainHasRun p name) steps before after
+RunAnswers p name steps a b before after ended.Memory = (after ≡ before) ⊎ (Comes p name Ready a b × Begins (MainHasRun p name) steps before after)
 RunAnswers p name steps a b before after (ended.NoBoot number) = Comes p name (NoBoot number) a b × (after ≡ before)
 RunAnswers p name steps a b before after ended.NoMain = Comes p name NoMain a b × (after ≡ before)
 RunAnswers p name steps a b before after ended.Read = after ≡ before
@@ -89,11 +78,11 @@ RunAnswers p name steps a b before after (ended.Limit quantity limit) = (passed 
 
 -- the same where the files aren't told
 abbrev pub RunAnswersUntold : ℕ → Option (List ℕ) → Option (List ℕ) → HomeEnd → Type 0
-RunAnswersUntold steps before after ended.Exit = Runs SomeProgram steps (Some ends.Exit) before after
-RunAnswersUntold steps before after ended.Stopped = Runs SomeProgram steps None before after
+RunAnswersUntold steps before after ended.Exit = Runs IsSomeRun steps true before after
+RunAnswersUntold steps before after ended.Stopped = Runs IsSomeRun steps false before after
 RunAnswersUntold steps before after ended.Unsupported = after ≡ before
-RunAnswersUntold steps before after ended.Write = Begins SomeProgram steps before after
-RunAnswersUntold steps before after ended.Memory = (after ≡ before) ⊎ Begins SomeProgram steps before after
+RunAnswersUntold steps before after ended.Write = Begins IsSomeRun steps before after
+RunAnswersUntold steps before after ended.Memory = (after ≡ before) ⊎ Begins IsSomeRun steps before after
 RunAnswersUntold steps before after (ended.NoBoot number) = (1 ≤ number) × (number ≤ length required) × (after ≡ before)
 RunAnswersUntold steps before after ended.NoMain = after ≡ before
 RunAnswersUntold steps before after ended.Read = after ≡ before

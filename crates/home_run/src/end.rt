@@ -12,7 +12,7 @@ pub enum HomeEnd {
     NoMain,
     /// As many turns were made as the limit, and `main` hasn't returned.
     Stopped,
-    /// The main class isn't a class of the first form.
+    /// The main class is none that can be run yet.
     Unsupported,
     /// A file could not be read.
     Read,

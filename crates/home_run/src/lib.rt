@@ -4,10 +4,8 @@
 mod end;
 mod listing;
 mod paths;
-mod program;
-mod request;
 mod running;
+mod tree_run;
 
 pub use end::HomeEnd;
-pub use request::HomeRun;
 pub use running::run_home;

@@ -3,14 +3,14 @@ ghost use Rattle.std.specs.Prelude.{◌≡◌, Some};
 ghost use Rattle.std.specs.Option.{option_map};
 ghost use Rattle.std.specs.String.{string_bytes};
 ghost use Rattle.class_record.specs.Facts.{names_of};
-ghost use Rattle.vm_start.specs.ClassList.{class_list};
-ghost use Rattle.home_run.specs.Requests.{request_view};
-ghost use Rattle.home_run.specs.Answers.{contents_told, reads_told};
+ghost use Rattle.class_record.specs.ClassList.{class_list};
+ghost use Rattle.command_words.specs.Requests.{home_view};
+ghost use Rattle.jsa_files.specs.Told.{contents_told, reads_told};
 ghost use Rattle.home_run.specs.Steps.{ListAnswers, CountsList};
 
 use crate::end::HomeEnd;
-use crate::request::HomeRun;
 use class_linker::Fresh;
+use command_words::HomeRun;
 use jsa_files::{Files, FilesFault};
 use std::alloc::Global;
 use vm_start::load_list;
@@ -38,7 +38,7 @@ pub(crate) fn list_classes<F: Files>(
     request: &HomeRun,
     classes: Fresh<F>,
 ) -> (HomeEnd, F)
-    ensures answer { ListAnswers (contents_told (F.store classes.files)) (contents_told (F.store result.1)) (F.write_faults classes.files, F.write_faults result.1) (request_view request.now).list (class_list (names_of classes.loaded.classes)) result.0 }
+    ensures answer { ListAnswers (contents_told (F.store classes.files)) (contents_told (F.store result.1)) (F.write_faults classes.files, F.write_faults result.1) (home_view request.now).list (class_list (names_of classes.loaded.classes)) result.0 }
     ensures reads { reads_told (F.store result.1) ≡ reads_told (F.store classes.files) }
     ensures write_fault { CountsList (F.write_faults classes.files) (F.write_faults result.1) result.0 }
     ensures read_faults { F.read_faults result.1 ≡ F.read_faults classes.files }

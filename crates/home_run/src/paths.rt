@@ -2,9 +2,10 @@
 ghost use Rattle.std.specs.Prelude.{◌≡◌, ◌≤◌, ◌++◌, ◌∷◌, [], length, map, IfOk};
 ghost use Rattle.std.specs.String.{string_bytes};
 ghost use Rattle.std.specs.Vec.{vec_len};
-ghost use Rattle.home_run.specs.Requests.{folder_lists, request_view};
+ghost use Rattle.command_words.specs.Requests.{home_view};
+ghost use Rattle.home_run.specs.Requests.{folder_lists};
 
-use crate::request::HomeRun;
+use command_words::HomeRun;
 use jsa_files::Names;
 use loader_rules::Paths;
 use std::alloc::{AllocError, Global};
@@ -34,7 +35,7 @@ fn folders_of(alloc: Global, folders: &[String]) -> Result<Names, AllocError>
 /// The folders of the three loaders.
 pub(crate) fn paths_of(alloc: Global, request: &HomeRun) -> Result<Paths, AllocError>
     requires { vec_len request.now.folders ≤ 64 }
-    ensures { IfOk result (λ paths. paths ≡ folder_lists (request_view request.now)) }
+    ensures { IfOk result (λ paths. paths ≡ folder_lists (home_view request.now)) }
 {
     let boot = folder_of(alloc, request.home.as_str(), "/boot")?;
     let platform = folder_of(alloc, request.home.as_str(), "/platform")?;

@@ -3,20 +3,21 @@ ghost use Rattle.std.specs.Prelude.{◌≡◌, ◌<◌, ◌≤◌, ◌⊎◌, le
 ghost use Rattle.std.specs.Vec.{vec_len};
 ghost use Rattle.class_record.specs.Facts.{name_at};
 ghost use Rattle.class_linker.specs.Fresh.{fresh_view, world_in};
-ghost use Rattle.home_run.specs.Requests.{request_view, folder_lists};
+ghost use Rattle.command_words.specs.Requests.{home_view};
+ghost use Rattle.home_run.specs.Requests.{folder_lists};
 ghost use Rattle.home_run.specs.Answers.{AnswersRun, CountsReads, CountsWrites};
 ghost use Rattle.home_run.specs.Steps.{MainAnswers, ClassesAnswer, CountsPuts, end_of_fault, progress_in};
 
 use crate::end::HomeEnd;
 use crate::listing::list_classes;
 use crate::paths::paths_of;
-use crate::program::run_tree;
-use crate::request::HomeRun;
+use crate::tree_run::run_tree;
 use class_linker::Fresh;
-use class_record::{ClassId, ClassesFault};
+use class_record::{ClassId, ClassesFault, Start};
+use command_words::HomeRun;
 use jsa_files::{Files, Sink};
 use std::alloc::Global;
-use vm_start::{Start, start_run};
+use vm_start::start_run;
 
 // Runs the main class, which is loaded.
 fn run_main<F: Files, O: Sink>(
@@ -53,7 +54,7 @@ fn run_classes<F: Files, O: Sink>(
     classes: &mut Fresh<F>,
     out: &mut O,
 ) -> HomeEnd
-    ensures answer { ClassesAnswer (world_in (F.store classes.old.files) classes.old.folders) (request_view request.now).name request.now.steps (progress_in F.store classes.old) (progress_in F.store classes.new) (O.taken out.old) (O.taken out.new) result }
+    ensures answer { ClassesAnswer (world_in (F.store classes.old.files) classes.old.folders) (home_view request.now).name request.now.steps (progress_in F.store classes.old) (progress_in F.store classes.new) (O.taken out.old) (O.taken out.new) result }
     ensures world { world_in (F.store classes.new.files) classes.new.folders ≡ world_in (F.store classes.old.files) classes.old.folders }
     ensures read_fault { CountsReads (F.read_faults classes.old.files) (F.read_faults classes.new.files) result }
     ensures write_fault { CountsPuts (O.faults out.old) (O.faults out.new) result }
@@ -78,8 +79,8 @@ fn run_over<F: Files, O: Sink>(
     classes: Fresh<F>,
     out: &mut O,
 ) -> (HomeEnd, F)
-    requires new { classes ≡ fresh_view (folder_lists (request_view request.now)) classes.files }
-    ensures answer { AnswersRun (F.store classes.files) (F.store result.1) (F.write_faults classes.files, F.write_faults result.1) (request_view request.now) (O.taken out.old) (O.taken out.new) result.0 }
+    requires new { classes ≡ fresh_view (folder_lists (home_view request.now)) classes.files }
+    ensures answer { AnswersRun (F.store classes.files) (F.store result.1) (F.write_faults classes.files, F.write_faults result.1) (home_view request.now) (O.taken out.old) (O.taken out.new) result.0 }
     ensures read_fault { CountsReads (F.read_faults classes.files) (F.read_faults result.1) result.0 }
     ensures write_fault { CountsWrites (F.write_faults classes.files) (F.write_faults result.1) (O.faults out.old) (O.faults out.new) result.0 }
     ensures read_can_fail { result.0 ≡ HomeEnd.Read → F.can_fail classes.files }
@@ -95,7 +96,7 @@ fn run_over<F: Files, O: Sink>(
 }
 
 /// Runs a main class. The required classes are loaded and linked first, then the main class is loaded (JVMS 5.2, 5.3, 5.4), and
-/// its `main` makes its turns, where it is a class of the first form. The store comes back with every answer.
+/// its `main` makes its turns, where it is one that can be run yet. The store comes back with every answer.
 ///
 /// The caller gives 64 application folders at most.
 ///
@@ -103,7 +104,7 @@ fn run_over<F: Files, O: Sink>(
 ///   line each.
 /// - `NoBoot`: a required class is wanting; this is the number of the first. Nothing is loaded after it.
 /// - `NoMain`: the main class doesn't load.
-/// - `Unsupported`: the main class isn't of the first form.
+/// - `Unsupported`: the main class is none that can be run yet.
 /// - `Stopped`: as many turns were made as the limit, and `main` hasn't returned.
 /// - `Limit`: a class file of more than `MAX_FILE` bytes is to be read, or a class more than 65,535 would be loaded,
 ///   whichever is first.
@@ -118,7 +119,7 @@ pub fn run_home<F: Files, O: Sink>(
     out: &mut O,
 ) -> (HomeEnd, F)
     requires few { vec_len request.now.folders ≤ 64 }
-    ensures answer { AnswersRun (F.store files) (F.store result.1) (F.write_faults files, F.write_faults result.1) (request_view request.now) (O.taken out.old) (O.taken out.new) result.0 }
+    ensures answer { AnswersRun (F.store files) (F.store result.1) (F.write_faults files, F.write_faults result.1) (home_view request.now) (O.taken out.old) (O.taken out.new) result.0 }
     // A fault is answered only where its count rose, and only where a call could fail.
     ensures read_fault { CountsReads (F.read_faults files) (F.read_faults result.1) result.0 }
     ensures write_fault { CountsWrites (F.write_faults files) (F.write_faults result.1) (O.faults out.old) (O.faults out.new) result.0 }

@@ -45,7 +45,7 @@ pub record IsArchive (bytes : List ℕ) (classes : List PlainClass) (folders : F
   pub header : FitsHeader (archive_header classes folders)
   pub fits : AllByRecursion FitsRecord classes
   pub manifest : SpellsManifest (manifest_bytes folders) folders
-  -- each class is of the first form and has its own name inside, and no name stands twice
+  -- each class has its own name inside, and no name stands twice
   pub records : AllByRecursion IsRecord classes
   pub distinct : IsTrue (are_distinct (names_of classes))
   pub one : IsTrue (has_one_folder folders)

@@ -6,7 +6,7 @@ use Rattle.std.specs.Borrow.{Bor}
 use Rattle.jsa_base.specs.Reading.{Read, pair_at, made, times, all_read}
 use Rattle.jsa_base.specs.Spelling.{FitsLongText}
 use Rattle.jsa_base.specs.LowFirst.{low_text, low_text_at}
-use Rattle.classfile_reader.specs.FirstForm.{IsClassNamed}
+use Rattle.first_form.specs.FirstForm.{IsClassNamed}
 use Rattle.plain_classes.specs.declared.class.PlainClass.{PlainClass}
 
 -- ---- how they are written
@@ -56,9 +56,14 @@ abbrev pub is_among : List ℕ → List (List ℕ) → Bool
 is_among name [] = false
 is_among name (n ∷ names) = bytes_eq name n || is_among name names
 
--- a class of the first form with its own name inside
+-- a class file (JVMS 4) of which an archive may hold the class, and this is the class's name (4.1, 4.2.1): today the class
+-- is of the first form
+abbrev pub IsNamed : List ℕ → List ℕ → Type 0
+IsNamed bytes name = IsClassNamed bytes name
+
+-- a class with its own name inside
 abbrev pub IsRecord : PlainClass → Type 0
-IsRecord c = IsClassNamed c.bytes c.name
+IsRecord c = IsNamed c.bytes c.name
 
 -- no name stands twice
 abbrev pub are_distinct : List (List ℕ) → Bool

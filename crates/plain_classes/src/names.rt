@@ -6,7 +6,7 @@ ghost use Rattle.plain_classes.specs.Outcomes.{Tells};
 ghost use Rattle.plain_classes.specs.Records as spec;
 
 use crate::class::PlainClass;
-use classfile_reader::{FormFault, read_name};
+use first_form::{FormFault, read_name};
 use std::alloc::{AllocError, Global};
 use std::collections::BTreeSet;
 
@@ -21,11 +21,13 @@ fn add<'a>(seen: &mut BTreeSet<&'a [u8]>, name: &'a [u8]) -> Result<bool, AllocE
     }
 }
 
-fn is_named(alloc: Global, class: &PlainClass) -> Result<bool, AllocError>
-    ensures { IfOk result (λ named. Tells named (spec.IsRecord class.now)) }
+/// Whether the bytes are a class file (JVMS 4) of which an archive may hold the class, and the class that they declare has
+/// this internal name (JVMS 4.1, 4.2.1).
+pub fn is_named(alloc: Global, bytes: &[u8], name: &[u8]) -> Result<bool, AllocError>
+    ensures { IfOk result (λ named. Tells named (spec.IsNamed bytes.now name.now)) }
 {
-    match read_name(alloc, class.bytes.as_slice()) {
-        Ok(name) => Ok(name.as_slice() == class.name.as_slice()),
+    match read_name(alloc, bytes) {
+        Ok(inside) => Ok(inside.as_slice() == name),
         Err(FormFault::NotFirstForm) => Ok(false),
         Err(FormFault::Memory) => Err(AllocError),
     }
@@ -51,8 +53,7 @@ pub fn are_distinct(alloc: Global, classes: &[PlainClass]) -> Result<bool, Alloc
     }
 }
 
-/// Whether each class is one of the first form whose internal name, the one that its class file names as its own (JVMS 4.1),
-/// is the name beside it.
+/// Whether each class has its own name inside, as `is_named` has it.
 pub fn are_named(alloc: Global, classes: &[PlainClass]) -> Result<bool, AllocError>
     ensures { IfOk result (λ named. Tells named (AllByRecursion spec.IsRecord classes.now)) }
 {
@@ -61,7 +62,7 @@ pub fn are_named(alloc: Global, classes: &[PlainClass]) -> Result<bool, AllocErr
         let [first, more @ ..] = rest else {
             return Ok(true);
         };
-        let Ok(is_named) = is_named(alloc, first) else {
+        let Ok(is_named) = is_named(alloc, first.bytes.as_slice(), first.name.as_slice()) else {
             return Err(AllocError);
         };
         if !is_named {

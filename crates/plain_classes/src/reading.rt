@@ -70,7 +70,7 @@ fn class(alloc: Global, cursor: &mut Cursor<'_>) -> Result<PlainClass, Unread>
     Ok(PlainClass { name, bytes })
 }
 
-#[tactic(auto, using(crate::proofs::Loop::goes_on, crate::proofs::Loop::ends, crate::proofs::Loop::is_done))]
+#[tactic(auto, using(jsa_base::proofs::Loops::goes_on, crate::proofs::Loop::ends, jsa_base::proofs::Loops::is_done))]
 fn some_classes(
     alloc: Global,
     count: u64,

@@ -1,21 +1,11 @@
 //! Writes the classes of an archive.
 ghost use Rattle.std.specs.Prelude.{◌≡◌, ◌<◌, ◌^◌, ◌++◌, length, IsTrue, IfOk, OnOk};
 ghost use Rattle.std.specs.List.{flat_map, AllByRecursion};
-ghost use Rattle.jsa_base.specs.LowFirst.{low_text};
 ghost use Rattle.plain_classes.specs.Records as spec;
 
 use crate::class::PlainClass;
-use jsa_base::{Cursor, low_u4};
+use jsa_base::{Cursor, put_low_text};
 use std::alloc::{AllocError, Global};
-
-// Bytes behind their number in four bytes.
-fn push_text(bytes: &mut Vec<u8>, text: &[u8]) -> Result<(), AllocError>
-    requires { length text.now < 2 ^ 32 }
-    ensures { OnOk result (bytes.new.items ≡ bytes.old.items ++ low_text text.now) }
-{
-    bytes.extend_from_slice(&low_u4(text.len() as u32))?;
-    bytes.extend_from_slice(text)
-}
 
 // What the types of the fields say of a class whose texts are short.
 fn fits(class: &PlainClass)
@@ -32,8 +22,8 @@ fn push_class(bytes: &mut Vec<u8>, class: &PlainClass) -> Result<(), AllocError>
     ensures fits { spec.FitsRecord class.now }
 {
     fits(class);
-    push_text(bytes, class.name.as_slice())?;
-    push_text(bytes, class.bytes.as_slice())
+    put_low_text(bytes, class.name.as_slice())?;
+    put_low_text(bytes, class.bytes.as_slice())
 }
 
 fn push_classes(bytes: &mut Vec<u8>, classes: &[PlainClass]) -> Result<(), AllocError>

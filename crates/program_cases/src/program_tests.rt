@@ -1,8 +1,9 @@
 // What no contract says: that a class of the first form is read where memory suffices.
 use class_tree::ClassTree;
-use classfile_reader::{
-    FormFault, Program, each_class_is_named, one_name, one_program, read_class, read_name,
-    read_program, tree_program,
+use classfile_reader::read_class;
+use first_form::{
+    FormFault, Program, each_class_is_named, one_name, one_program, read_name, read_program,
+    tree_program,
 };
 use std::alloc::{AllocError, Global};
 use std::test::Fail;
@@ -185,7 +186,7 @@ code 2 1: b2 00 0b b1 = refused, getstatic
 code 2 1: 03 b7 00 0b b1 = refused, invokespecial
 change 7 8: 32 = refused, version 50
 change 7 8: 33 = refused, version 51
-change 13 15: c3 a9 = refused, a character of two bytes
+change 13 15: c3 a9 = [Push(40), Push(2), Add, Put, Return]
 change 81 87: 01 00 04 70 75 74 73 = refused, a native method of another name
 change 91 92: 4a = refused, a native method of a long
 change 99 100: 0b = refused, an InterfaceMethodref

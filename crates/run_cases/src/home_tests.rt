@@ -2,7 +2,8 @@
 ghost use Rattle.std.specs.Prelude.{◌≤◌, IfOk};
 ghost use Rattle.std.specs.Vec.{vec_len};
 
-use home_run::{HomeEnd, HomeRun, run_home};
+use command_words::HomeRun;
+use home_run::{HomeEnd, run_home};
 use jsa_base::Quantity;
 use jsa_files::{Files, MAX_FILE, MemoryFiles, MemorySink};
 use std::alloc::Global;

@@ -1,14 +1,17 @@
 // Runs over a sink in memory, of classes that are read.
 ghost use Rattle.std.specs.Prelude.{◌≡◌, true, IfOk};
-ghost use Rattle.classfile_reader.specs.Program.{is_tested};
+ghost use Rattle.first_form.specs.Program.{is_tested};
 
 use crate::test_rows::PUTS;
-use classfile_reader::{Program, read_program};
+use classfile_reader::read_class;
+use first_form::{
+    ClassState, End, Machine, Program, RunEnd, a_fitting_program_exits, no_class_is_stuck, one_run,
+    read_program, run, run_bytes, run_tree,
+};
 use jsa_files::MemorySink;
 use std::alloc::Global;
 use std::process::Abort;
 use std::test::Fail;
-use vm_run::{ClassState, End, Machine, run};
 
 // A class up to the low byte of the size of its pool.
 const HEAD: [u8; 9] = [202, 254, 186, 190, 0, 0, 0, 52, 0];
@@ -112,6 +115,25 @@ fn an_ended_run_stays(rt: HostRuntime) -> Result<(), Fail> {
     );
     assert_eq!(rt; machine.turns, 9);
     assert_eq!(rt; out.bytes(), b"42\n".as_slice());
+    Ok(())
+}
+
+#[test]
+fn a_class_runs_by_its_bytes_and_by_its_tree(rt: HostRuntime) -> Result<(), Fail> {
+    let alloc = rt.alloc();
+    let class = class_of(&rt, alloc, 2, &[], &PUTS_A_SUM)?;
+    let tree = read_class(alloc, &class)?;
+    let mut out = MemorySink::new(alloc);
+    assert_eq!(rt; run_bytes(alloc, &class, 9, &mut out), RunEnd::Returned);
+    assert_eq!(rt; run_tree(alloc, &tree, 8, &mut out), RunEnd::Stopped);
+    assert_eq!(rt;
+        run_bytes(alloc, &class[1..], 9, &mut out),
+        RunEnd::Unsupported
+    );
+    assert_eq!(rt; out.bytes(), b"42\n42\n".as_slice());
+    one_run();
+    a_fitting_program_exits();
+    no_class_is_stuck();
     Ok(())
 }
 

@@ -1,6 +1,6 @@
 use Rattle.std.proofs.Common.{◌≡◌, ◌-◌}
 use Rattle.jsa_base.specs.Reading.{times, u2_at}
-use Rattle.classfile_reader.proofs.PartLoops.{with_front}
+use Rattle.jsa_base.proofs.Loops.{with_front}
 use Rattle.classfile_reader.proofs.class_reading.some_indices.Given as goal
 
 abbrev pub invariant-loop : goal.invariant-loop

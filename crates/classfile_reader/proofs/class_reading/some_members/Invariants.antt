@@ -1,7 +1,7 @@
 use Rattle.std.proofs.Common.{◌≡◌, ◌-◌}
 use Rattle.jsa_base.specs.Reading.{times}
 use Rattle.class_tree.specs.ClassReading.{member_at}
-use Rattle.classfile_reader.proofs.PartLoops.{with_front}
+use Rattle.jsa_base.proofs.Loops.{with_front}
 use Rattle.classfile_reader.proofs.class_reading.some_members.Given as goal
 
 abbrev pub invariant-loop : goal.invariant-loop

@@ -2,17 +2,18 @@ use Rattle.std.proofs.Common.{◌∙◌, ℕ, sym, ap, subst, inr}
 use Rattle.class_record.specs.Facts.{names_of}
 use Rattle.class_linker.specs.Fresh.{FreshView, world_in}
 use Rattle.class_linker.specs.Kept.{names_read}
-use Rattle.vm_start.specs.ClassList.{class_list}
+use Rattle.class_record.specs.ClassList.{class_list}
 use Rattle.home_run.specs.declared.end.HomeEnd.TheVariants as ended
-use Rattle.home_run.specs.Requests.{request_view}
-use Rattle.home_run.specs.Answers.{contents_told, AnswersRun, CountsReads, CountsWrites}
+use Rattle.command_words.specs.Requests.{home_view}
+use Rattle.jsa_files.specs.Told.{contents_told}
+use Rattle.home_run.specs.Answers.{AnswersRun, CountsReads, CountsWrites}
 use Rattle.home_run.specs.Steps.{ClassesAnswer, ListAnswers, CountsList, progress_in}
 use Rattle.home_run.proofs.Ending.{listed, other, counts_listed, counts_other}
 use Rattle.home_run.proofs.running.run_over.Goals as goal
 
 pub returns-in-Exit-clause-answer : goal.returns-in-Exit-clause-answer
 returns-in-Exit-clause-answer g c =
-    let r = request_view c.args.request.now in
+    let r = home_view c.args.request.now in
     let store = g.F.Files.store in
     let was = c.args.classes in
     let mid = c.run_classes.new.classes in
@@ -29,7 +30,7 @@ returns-in-Exit-clause-write_fault g c =
 
 pub returns-in_default : goal.returns-in_default
 returns-in_default g c =
-    let r = request_view c.args.request.now in
+    let r = home_view c.args.request.now in
     let store = g.F.Files.store in
     let was = c.args.classes in
     let mid = c.run_classes.new.classes in

@@ -1,5 +1,0 @@
-use Rattle.classfile_reader.proofs.InnerNames.{each_is_named}
-use Rattle.classfile_reader.proofs.name_reading.each_class_is_named.Goals as goal
-
-pub returns : goal.returns
-returns c = each_is_named

@@ -1,9 +1,0 @@
-use Rattle.std.proofs.Common.{sym}
-use Rattle.classfile_reader.specs.Form.{is_main}
-use Rattle.classfile_reader.proofs.Trees.{code_is_short}
-use Rattle.classfile_reader.proofs.program_reading.program_of.Goals as goal
-
-pub program_in-requires : goal.program_in-requires
-program_in-requires c =
-    let found = sym c.in-Some.ensures in
-    code_is_short c.args.t.now (is_main c.args.t.now.pool) c.in-Some.main.now c.in-Some-code.code c.requires (rw c.as_slice.ensures at found) c.in-Some-code.is

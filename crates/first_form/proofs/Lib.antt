@@ -1,0 +1,9 @@
+pub mod Loop
+pub mod Trees
+pub mod Programs
+pub mod InnerNames
+pub mod NoRows
+pub mod Runs
+pub mod Fronts
+pub mod Exits
+pub mod ClassRuns

@@ -1,4 +1,0 @@
-pub mod NoRows
-pub mod Runs
-pub mod Fronts
-pub mod Exits
