@@ -2,8 +2,8 @@
 // that a text is read where memory suffices. A row is a text whose lines end at `~`, and behind ` = ` what it stands for.
 use crate::test_table::{BAD, CLASSES, INSTRUCTIONS};
 use class_asm::{
-    AsmFault, assemble, classes_have_paths, labels_stand, lines_decode, pools_are_built,
-    sizes_stand,
+    AsmFault, assemble, classes_have_paths, labels_stand, lines_decode, needs_are_built,
+    pools_are_built, sizes_stand,
 };
 use class_tree::{ClassTree, CodeTree, FieldTree, Handler, MethodTree};
 use std::alloc::{AllocError, Global};
@@ -369,6 +369,7 @@ fn the_laws_stand(_rt: HostRuntime) {
     sizes_stand();
     labels_stand();
     lines_decode();
+    needs_are_built();
     pools_are_built();
     classes_have_paths();
 }

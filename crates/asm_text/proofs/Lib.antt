@@ -3,7 +3,6 @@ mod Fronts
 mod Numerals
 mod LineSteps
 mod Each
-mod KeyOrder
 mod Names
 mod TokenLaws
 mod PathWords

@@ -4,7 +4,7 @@ use Rattle.std.specs.List.{list_all}
 use Rattle.std.specs.Option.{option_map}
 use Rattle.std.specs.Str.{bytes_eq}
 use Rattle.jsa_base.specs.Reading.{◌>>=◌, when}
-use Rattle.class_tree.specs.Flags.{has}
+use Rattle.class_tree.specs.Flags.{is_static}
 use Rattle.class_tree.specs.Links.{is_class_or_array}
 use Rattle.class_tree.specs.Trees.{each}
 use Rattle.asm_text.specs.declared.statement.Constant.{Constant}
@@ -42,7 +42,7 @@ version_line _ = None
 -- At most one value, and none where the field isn't static: no class file keeps it then (JVMS 4.7.2).
 abbrev pub optional_value : ℕ → List ℕ → List (List ℕ) → Option (Option Constant)
 optional_value bits desc [] = Some None
-optional_value bits desc (t ∷ []) = if has bits 0x0008 then option_map Some (value_of desc t) else None
+optional_value bits desc (t ∷ []) = if is_static bits then option_map Some (value_of desc t) else None
 optional_value bits desc _ = None
 
 -- FLAGS NAME DESC, and a value

@@ -1,12 +1,11 @@
 -- Lines of instructions.
-use Rattle.std.specs.Prelude.{ℕ, ℤ, pos, ◌+ℤ◌, ◌+◌, int_lt, List, [], ◌∷◌, length, map, Bool, ◌&&◌, ◌==◌, nat_lt, nat_le, codes, Option, Some, None, if◌then◌else◌}
+use Rattle.std.specs.Prelude.{ℕ, ℤ, pos, ◌+ℤ◌, ◌+◌, int_lt, List, [], ◌∷◌, length, Bool, ◌&&◌, ◌==◌, nat_lt, nat_le, codes, Option, Some, None, if◌then◌else◌}
 use Rattle.std.specs.List.{list_all}
 use Rattle.std.specs.Option.{option_map}
 use Rattle.std.specs.Str.{bytes_eq}
 use Rattle.jsa_base.specs.Reading.{◌>>=◌, when}
 use Rattle.class_tree.specs.WellFormed.{parameter_slots}
 use Rattle.jsa_ops.specs.Opcodes.{form_of}
-use Rattle.jsa_ops.specs.Spelling.{ascend}
 use Rattle.jsa_ops.specs.declared.form.Form.{Form}
 use Rattle.jsa_ops.specs.declared.form.Form.TheVariants as forms
 use Rattle.asm_text.specs.declared.statement.Constant.{Constant}
@@ -150,12 +149,11 @@ first_case (key ∷ (label ∷ rest)) = do
   first ← case_of key label
   Some (first, rest)
 
--- DEFAULT KEY LABEL ..: the keys ascend (JVMS 4.9.1)
+-- DEFAULT KEY LABEL ..: the keys in the order in which they are written
 abbrev pub lookup_operands : ℕ → List (List ℕ) → Option Operation
 lookup_operands op (other ∷ rest) = do
   ok ← when (is_word other)
   cases ← cases_of rest
-  sorted ← when (ascend (map (λ c. c.key) cases))
   Some (operation.LookupSwitch op other cases)
 lookup_operands op _ = None
 

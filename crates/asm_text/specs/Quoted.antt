@@ -1,19 +1,14 @@
--- Modified UTF-8 (JVMS 4.4.7) of a line, and quoted texts.
+-- A line in modified UTF-8 (JVMS 4.4.7), and quoted texts.
 use Rattle.std.specs.Prelude.{ℕ, zero, suc, List, [], ◌∷◌, ◌++◌, length, Bool, false, ◌&&◌, ◌==◌, Option, Some, None, if◌then◌else◌}
-use Rattle.std.specs.List.{flat_map}
-use Rattle.std.specs.Char.Escape.{encode_utf16}
-use Rattle.std.specs.Str.{chars, is_utf8}
+use Rattle.std.specs.Str.{is_utf8}
 use Rattle.jsa_base.specs.Reading.{◌>>=◌}
-use Rattle.jsa_names.specs.Texts.{unit_spelling, text_spelling}
+use Rattle.jsa_names.specs.Texts.{unit_spelling}
+use Rattle.jsa_names.specs.Mutf8 as names
 use Rattle.asm_text.specs.Numbers.{four_digits}
-
--- a character, by its units of UTF-16
-abbrev pub char_bytes : ℕ → List ℕ
-char_bytes c = text_spelling (encode_utf16 c)
 
 -- A line in modified UTF-8, where it is UTF-8.
 unfoldable pub modified : List ℕ → Option (List ℕ)
-modified line = if is_utf8 line then Some (flat_map char_bytes (chars line)) else None
+modified line = if is_utf8 line then Some (names.modified line) else None
 
 -- ---- quoted texts
 

@@ -6,7 +6,7 @@ use Rattle.jsa_base.specs.Reading.{◌>>=◌, when}
 use Rattle.jsa_names.specs.Names.{is_class_name, is_member_name, is_method_name}
 use Rattle.jsa_names.specs.Paths.{text_of}
 use Rattle.class_tree.specs.Links.{is_field_type, is_method_type, is_class_or_array, is_init, returns_void}
-use Rattle.class_tree.specs.Flags.{has}
+use Rattle.class_tree.specs.Flags.{is_static}
 use Rattle.class_tree.specs.WellFormed.{is_declared_name, parameter_slots, are_within}
 use Rattle.asm_text.specs.declared.statement.Constant.{Constant}
 use Rattle.asm_text.specs.declared.statement.Constant.TheVariants as constant
@@ -39,7 +39,7 @@ are_field_words name desc = is_word name && is_member_name name && is_field_type
 
 -- A method descriptor whose parameters take at most 255 slots, `this` among them in a method that isn't static (JVMS 4.3.3).
 abbrev pub takes_few : ℕ → List ℕ → Bool
-takes_few bits desc = are_within (parameter_slots (Some desc)) (if has bits 0x0008 then 0 else 1) 255
+takes_few bits desc = are_within (parameter_slots (Some desc)) (if is_static bits then 0 else 1) 255
 
 -- the flags, the name and the descriptor of a declared method (JVMS 4.2.2, 4.3.3)
 abbrev pub are_method_words : ℕ → List ℕ → List ℕ → Bool

@@ -17,7 +17,7 @@ use crate::words::{
     are_class_words, are_field_words, are_method_words, copies, copy, is_class_word,
     is_operand_word, is_path_word, is_word, value_of,
 };
-use class_tree::{has_flag, is_class_or_array};
+use class_tree::{is_class_or_array, is_static};
 use sqlite_items::Items;
 use std::alloc::{AllocError, Global};
 
@@ -114,7 +114,7 @@ fn optional_value(
     let [] = more else {
         return Err(LineFault::Outside);
     };
-    if !has_flag(flags, 0x0008) {
+    if !is_static(flags) {
         return Err(LineFault::Outside);
     }
     let value = value_of(alloc, desc, token.as_slice())?;

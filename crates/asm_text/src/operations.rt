@@ -1,9 +1,7 @@
 //! Lines of instructions.
-ghost use Rattle.std.specs.Prelude.{◌≡◌, ◌<◌, length, map, IfOk, Some};
+ghost use Rattle.std.specs.Prelude.{◌≡◌, ◌<◌, length, IfOk, Some};
 ghost use Rattle.class_tree.specs.WellFormed as well_formed;
 ghost use Rattle.jsa_ops.specs.Opcodes as opcodes;
-ghost use Rattle.jsa_ops.specs.Spelling.{ascend};
-ghost use Rattle.jsa_ops.specs.Reading.{key_above};
 ghost use Rattle.asm_text.specs.Outcome.{Yields};
 ghost use Rattle.asm_text.specs.Numbers.{natural, integer};
 ghost use Rattle.asm_text.specs.Operations.{plain_operands, byte_operands, short_operands, local_operands, iinc_operands, branch_operands, class_operands, new_array_operands, multi_array_operands, kind_of, member_operands, interface_operands, number_or_text, class_constant, constant_of, long_of, loaded, load_operands, last_fits, table_operands, case_of, first_case, cases_of, lookup_operands, operands, operation_of};
@@ -354,29 +352,6 @@ fn cases_of(alloc: Global, rest: &[Items<u8>]) -> Result<Items<SwitchCase>, Line
     Ok(cases)
 }
 
-fn is_above(before: Option<i32>, case: &SwitchCase) -> bool
-    ensures { result ≡ key_above before case.now.key }
-{
-    match before {
-        Some(before) => before < case.key,
-        None => true,
-    }
-}
-
-// Each key is below the next.
-fn ascend(cases: &[SwitchCase]) -> bool
-    ensures { result ≡ ascend (map (λ c. c.key) cases.now) }
-{
-    let mut before = None;
-    for case in cases {
-        if !is_above(before, case) {
-            return false;
-        }
-        before = Some(case.key);
-    }
-    true
-}
-
 fn lookup_operands(alloc: Global, op: u8, rest: &[Items<u8>]) -> Result<Operation, LineFault>
     ensures { Yields (λ o. o) result (lookup_operands op rest.now) }
 {
@@ -387,9 +362,6 @@ fn lookup_operands(alloc: Global, op: u8, rest: &[Items<u8>]) -> Result<Operatio
         return Err(LineFault::Outside);
     }
     let cases = cases_of(alloc, rest)?;
-    if !ascend(cases.as_slice()) {
-        return Err(LineFault::Outside);
-    }
     let other = copy(alloc, other)?;
     Ok(Operation::LookupSwitch(op, other, cases))
 }

@@ -1,54 +1,13 @@
 //! A line in modified UTF-8 (JVMS 4.4.7), and quoted texts.
-ghost use Rattle.std.specs.Prelude.{◌≡◌, ◌++◌, [], length, OnOk, IfOk};
-ghost use Rattle.std.specs.List.{flat_map};
-ghost use Rattle.std.specs.Str.{chars};
-ghost use Rattle.jsa_names.specs.Texts.{unit_spelling};
+ghost use Rattle.std.specs.Prelude.{◌≡◌, [], length};
 ghost use Rattle.asm_text.specs.Outcome.{Yields, Gives};
-ghost use Rattle.asm_text.specs.Quoted.{char_bytes, modified, escape, unit_piece, escape_piece, piece, put_after, closes, pieces, quoted};
+ghost use Rattle.asm_text.specs.Quoted.{modified, escape, unit_piece, escape_piece, piece, put_after, closes, pieces, quoted};
 
 use crate::fault::LineFault;
 use crate::numbers::four_digits;
+use jsa_names::put_unit;
 use sqlite_items::Items;
-use std::alloc::{AllocError, Global};
-
-// Puts how a unit of UTF-16 is spelled.
-fn put_unit(text: &mut Items<u8>, unit: u16) -> Result<(), AllocError>
-    ensures { OnOk result (text.new ≡ text.old ++ unit_spelling unit) }
-{
-    if 0x01 <= unit && unit <= 0x7F {
-        text.push(unit as u8)
-    } else if unit < 0x800 {
-        text.push((0xC0 + unit / 64) as u8)?;
-        text.push((0x80 + unit % 64) as u8)
-    } else {
-        text.push((0xE0 + unit / 4096) as u8)?;
-        text.push((0x80 + unit / 64 % 64) as u8)?;
-        text.push((0x80 + unit % 64) as u8)
-    }
-}
-
-// Puts a character, one above U+FFFF by its two surrogates.
-fn put_char(text: &mut Items<u8>, c: char) -> Result<(), AllocError>
-    ensures { OnOk result (text.new ≡ text.old ++ char_bytes c) }
-{
-    let code = c as u32;
-    if code < 0x1_0000 {
-        put_unit(text, code as u16)
-    } else {
-        put_unit(text, (0xD800 + (code - 0x1_0000) / 0x400) as u16)?;
-        put_unit(text, (0xDC00 + (code - 0x1_0000) % 0x400) as u16)
-    }
-}
-
-fn chars_bytes(alloc: Global, line: &str) -> Result<Items<u8>, AllocError>
-    ensures { IfOk result (λ t. t ≡ flat_map char_bytes (chars line.now)) }
-{
-    let mut text = Items::new(alloc);
-    for c in line.chars() {
-        put_char(&mut text, c)?;
-    }
-    Ok(text)
-}
+use std::alloc::Global;
 
 // A line in modified UTF-8.
 #[tactic(auto, unfolding(crate::specs::Quoted::modified))]
@@ -56,7 +15,7 @@ pub(crate) fn modified(alloc: Global, line: &[u8]) -> Result<Items<u8>, LineFaul
     ensures { Yields (λ t. t) result (modified line.now) }
 {
     match str::from_utf8(line) {
-        Ok(line) => Ok(chars_bytes(alloc, line)?),
+        Ok(line) => Ok(jsa_names::modified(alloc, line)?),
         Err(_) => Err(LineFault::Outside),
     }
 }

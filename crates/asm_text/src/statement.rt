@@ -151,7 +151,7 @@ pub enum Operation {
     MultiArray(u8, Items<u8>, u8),
     /// tableswitch, with the lowest key, the default label and the labels of the keys from the lowest on.
     TableSwitch(u8, i32, Items<u8>, Items<Items<u8>>),
-    /// lookupswitch, with the default label and its cases, by ascending keys.
+    /// lookupswitch, with the default label and its cases in the order in which they are written.
     LookupSwitch(u8, Items<u8>, Items<SwitchCase>),
 }
 

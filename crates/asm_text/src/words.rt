@@ -10,7 +10,7 @@ use crate::numbers::integer;
 use crate::quoted::quoted;
 use crate::statement::{Constant, MemberKind, MemberName};
 use class_tree::{
-    has_flag, is_class_or_array, is_declared_name, is_field_type, is_init, is_method_type,
+    is_class_or_array, is_declared_name, is_field_type, is_init, is_method_type, is_static,
     returns_void,
 };
 use jsa_names::{is_class_name, is_member_name, is_method_name, method_type, path_of};
@@ -77,7 +77,7 @@ pub(crate) fn are_field_words(name: &[u8], desc: &[u8]) -> bool
 fn takes_few(flags: u16, desc: &[u8]) -> bool
     ensures { result ≡ takes_few flags desc.now }
 {
-    let this = if has_flag(flags, 0x0008) { 0 } else { 1 };
+    let this = if is_static(flags) { 0 } else { 1 };
     match method_type(desc) {
         Some(method) => method.slots() + this <= 255,
         None => false,

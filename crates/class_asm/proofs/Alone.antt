@@ -1,5 +1,5 @@
 -- The bytes of an instruction that needs nothing of the pool.
-use Rattle.std.proofs.Common.{◌≡◌, ℕ, Option, Some, None, Result, Ok, Err, List, refl, ap}
+use Rattle.std.proofs.Common.{ℕ, Option, Some, None, Result, Ok, Err, List, refl, ap}
 use Rattle.std.specs.Option.{option_map}
 use Rattle.jsa_base.proofs.Codecs.{some_is}
 use Rattle.jsa_ops.specs.Instruction.{Instruction}

@@ -11,8 +11,8 @@ use Rattle.asm_text.specs.declared.statement.Statement.{Statement}
 use Rattle.asm_text.specs.declared.statement.Statement.TheVariants as statement
 use Rattle.asm_text.specs.Grammar.{statements}
 use Rattle.pool_builder.specs.Needs.{class_needed}
-use Rattle.pool_builder.specs.Laws.{IsBuilt}
-use Rattle.pool_builder.proofs.Built.{pools_are_built}
+use Rattle.pool_builder.specs.Laws.{IsBuilt, Keeps}
+use Rattle.pool_builder.proofs.Keeping.{keeps_same, pools_are_built}
 use Rattle.class_asm.specs.declared.class_draft.ClassDraft.{ClassDraft}
 use Rattle.class_asm.specs.declared.code_draft.MethodDraft.{MethodDraft}
 use Rattle.class_tree.specs.declared.tree.CodeTree.{CodeTree}
@@ -22,7 +22,7 @@ use Rattle.class_asm.specs.Labels.{labels_of}
 use Rattle.class_asm.specs.Drafts.{optional_class_needed, classes_needed, class_begun, tree_of, field_added, method_begun, method_closed, code_begun, label_passed, operation_added, handler_added, frame_added, code_ended}
 use Rattle.class_asm.specs.Assembly.{finished, in_class, in_header, in_method, in_code, after_class, next, advance, run, or_line, assembled, with_trees, after_version, after_field, after_method, after_code, after_label, after_operation, after_catch, after_frame, after_end}
 use Rattle.class_asm.specs.Laws.{PoolsAreBuilt}
-use Rattle.class_asm.proofs.Keeping.{Keeps, keeps_same, AllIn, bind_all, when_all, some_all, from, class_keeps}
+use Rattle.class_asm.proofs.Keeping.{AllIn, bind_all, when_all, some_all, from, class_keeps}
 use Rattle.class_asm.proofs.Kept.{Goes, optional_keeps, classes_keep, field_goes, method_goes, code_goes, label_goes, operation_goes, handler_goes, frame_goes, end_goes}
 
 abbrev ok : {A : Type 0} → A → Result A ℕ

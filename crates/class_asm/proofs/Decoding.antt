@@ -1,20 +1,21 @@
 -- What a line adds to a code decodes to the line's instruction.
-use Rattle.std.proofs.Common.{◌≡◌, ℕ, ℤ, pos, ◌+◌, ◌-◌, ◌*◌, ◌/◌, ◌%◌, ◌^◌, ◌<◌, Bool, true, false, cond, List, [], ◌∷◌, ◌++◌, length, map, drop, Option, Some, None, Ok, ◌⊎◌, inl, inr, refl, sym, ap, subst, ◌∙◌, append_assoc, arith}
+use Rattle.std.proofs.Common.{◌≡◌, ℕ, ℤ, pos, ◌+◌, ◌-◌, ◌*◌, ◌%◌, ◌^◌, ◌<◌, Bool, true, false, cond, List, [], ◌∷◌, ◌++◌, length, drop, Option, Some, None, Ok, ◌⊎◌, inl, inr, refl, sym, ap, subst, ◌∙◌, append_assoc, arith}
 use Rattle.std.specs.Prelude.{⊤, FitsSigned, nat_lt, ◌+ℤ◌, ◌-ℤ◌, neg_ℤ, int_lt, int_le, ◌&&◌}
-use Rattle.std.specs.Int.{w8, w16, w32, cast_signed, cast_unsigned}
+use Rattle.std.specs.Int.{w8, w16, w32}
 use Rattle.std.specs.List.{AllByRecursion}
 use Rattle.std.specs.Option.{option_map}
 use Rattle.std.proofs.lemmas.Bool.{ltb-true, ltb-false}
-use Rattle.std.proofs.lemmas.Int.{ints, to_z-of_z}
+use Rattle.std.proofs.lemmas.Int.{ints}
 use Rattle.std.proofs.lemmas.List.{length-append, drop_at}
 use Rattle.jsa_base.specs.Reading.{IsBytes}
 use Rattle.jsa_base.proofs.Codecs.{append-IsBytes}
+use Rattle.jsa_base.specs.Spelling.{s4}
 use Rattle.class_tree.specs.declared.constant_pool.PoolEntry.{PoolEntry}
 use Rattle.jsa_ops.specs.declared.form.Form.{Form}
 use Rattle.jsa_ops.specs.declared.form.Form.TheVariants as forms
 use Rattle.jsa_ops.specs.Opcodes.{form_of}
 use Rattle.jsa_ops.specs.Instruction.{Instruction, Plain, Byte, Short, Constant, Local, Iinc, Wide, WideIinc, Branch, Member, Interface, ClassOf, NewArray, MultiArray, TableSwitch, LookupSwitch}
-use Rattle.jsa_ops.specs.Spelling.{Fits, text_of, s4, keys, ascend, span}
+use Rattle.jsa_ops.specs.Spelling.{Fits, text_of, span}
 use Rattle.jsa_ops.specs.Reading.{instruction_at, placed, decoded}
 use Rattle.jsa_ops.proofs.Forms.{zeros, zeros_pad}
 use Rattle.jsa_ops.proofs.Parts.{s4_part}
@@ -23,7 +24,9 @@ use Rattle.asm_text.specs.declared.statement.MemberKind.TheVariants as kinds
 use Rattle.asm_text.specs.declared.statement.SwitchCase.{SwitchCase}
 use Rattle.asm_text.specs.declared.statement.Operation.{Operation}
 use Rattle.asm_text.specs.declared.statement.Operation.TheVariants as operation
-use Rattle.pool_builder.specs.Needs.{class_needed, member_needed, constant_needed}
+use Rattle.pool_builder.specs.Needs.{class_needed}
+use Rattle.class_asm.specs.Keys.{has_ascending_keys}
+use Rattle.class_asm.specs.Needs.{member_needed, constant_needed}
 use Rattle.class_asm.specs.declared.code_draft.CodeDraft.{CodeDraft}
 use Rattle.class_asm.specs.Labels.{Label, place_of, is_near, is_near_form, is_far_form, fits_byte, size}
 use Rattle.class_asm.specs.Code.{resolved, is_reached, distance_to, reach, far_to, distances_to, pairs_to, high_of, table_of, lookup_of, local_of, iinc_of, of_index, alone}
@@ -85,27 +88,13 @@ distances_bytes labels from (name ∷ names) =
     (λ first h. bind_all (distances_to labels from names) _ IsBytes IsBytes (distances_bytes labels from names)
     (λ others b. some_all (s4 first ++ others) IsBytes (append-IsBytes (s4 first) others (s4_bytes first h) b)))
 
--- the keys of the bytes of pairs are the keys of the cases
-record PairsOf (cases : List SwitchCase) (pairs : List ℕ) : Type 0 where
-  pub are_bytes : IsBytes pairs
-  pub keys_are : keys pairs ≡ map (λ c. c.key) cases
-
-whole_key : (z : ℤ) (d : ℤ) (others : List ℕ) → FitsSigned w32 z → keys ((s4 z ++ s4 d) ++ others) ≡ z ∷ keys others
-whole_key z d others fits =
-    let n = cast_unsigned w32 z in
-    let back : 16777216 * (n / 16777216) + 65536 * (n / 65536 % 256) + 256 * (n / 256 % 256) + n % 256 ≡ n = omega arith in
-    ap (λ (k : ℕ). cast_signed w32 k ∷ keys others) back ∙ ap (λ (k : ℤ). k ∷ keys others) (to_z-of_z w32 z fits)
-
-pairs_are : (labels : List Label) (from : ℕ) (cases : List SwitchCase) → AllByRecursion KeyFits cases → AllIn (pairs_to labels from cases) (PairsOf cases)
+pairs_bytes : (labels : List Label) (from : ℕ) (cases : List SwitchCase) → AllByRecursion KeyFits cases → AllIn (pairs_to labels from cases) IsBytes
 unfolding pairs_to
-pairs_are labels from [] fits = some_all [] (PairsOf []) (record { are_bytes = tt; keys_are = refl })
-pairs_are labels from (c ∷ cases) fits =
-    bind_all (far_to labels from c.label) _ (FitsSigned w32) (PairsOf (c ∷ cases)) (far_fits labels from c.label)
-    (λ first h. bind_all (pairs_to labels from cases) _ (PairsOf cases) (PairsOf (c ∷ cases)) (pairs_are labels from cases fits.1)
-    (λ others p. some_all ((s4 c.key ++ s4 first) ++ others) (PairsOf (c ∷ cases)) (record {
-      are_bytes = append-IsBytes (s4 c.key ++ s4 first) others (append-IsBytes (s4 c.key) (s4 first) (s4_bytes c.key fits.0) (s4_bytes first h)) p.are_bytes;
-      keys_are = whole_key c.key first others fits.0 ∙ ap (λ (ks : List ℤ). c.key ∷ ks) p.keys_are;
-    })))
+pairs_bytes labels from [] fits = some_all [] IsBytes tt
+pairs_bytes labels from (c ∷ cases) fits =
+    bind_all (far_to labels from c.label) _ (FitsSigned w32) IsBytes (far_fits labels from c.label)
+    (λ first h. bind_all (pairs_to labels from cases) _ IsBytes IsBytes (pairs_bytes labels from cases fits.1)
+    (λ others b. some_all ((s4 c.key ++ s4 first) ++ others) IsBytes (append-IsBytes (s4 c.key ++ s4 first) others (append-IsBytes (s4 c.key) (s4 first) (s4_bytes c.key fits.0) (s4_bytes first h)) b)))
 
 -- the highest key of so many
 record Highest (low : ℤ) (n : ℕ) (high : ℤ) : Type 0 where
@@ -133,16 +122,20 @@ table_fits labels place op low other targets f =
     (λ d g. bind_all (distances_to labels place targets) _ (λ text. (length text ≡ 4 * length targets) × IsBytes text) Fits (λ text e. (distances_size labels place targets text e, distances_bytes labels place targets text e))
     (λ text t. some_all (TableSwitch op d low high text) Fits (f.0, g, f.1, h.fits, h.above, t.0 ∙ ap (λ (n : ℕ). 4 * n) (sym h.many), t.1))))
 
-lookup_fits : (labels : List Label) (place op : ℕ) (other : List ℕ) (cases : List SwitchCase) → Formed (operation.LookupSwitch op other cases) → length cases < 65536 → AllIn (lookup_of labels place op other cases) Fits
+-- It fits where its keys ascend.
+abbrev FitsInOrder : Instruction → Type 0
+FitsInOrder i = has_ascending_keys i ≡ true → Fits i
+
+lookup_fits : (labels : List Label) (place op : ℕ) (other : List ℕ) (cases : List SwitchCase) → Formed (operation.LookupSwitch op other cases) → length cases < 65536 → AllIn (lookup_of labels place op other cases) FitsInOrder
 lookup_fits labels place op other cases f few =
-    bind_all (far_to labels place other) _ (FitsSigned w32) Fits (far_fits labels place other)
-    (λ d g. bind_all (pairs_to labels place cases) _ (λ text. (length text ≡ 8 * length cases) × PairsOf cases text) Fits (λ text e. (pairs_size labels place cases text e, pairs_are labels place cases f.1 text e))
-    (λ text t. some_all (LookupSwitch op d text) Fits (f.0, g, short (length text) (length cases) t.0 few, eighths (length text) (length cases) t.0, ap ascend t.1.keys_are ∙ f.2, t.1.are_bytes)))
+    bind_all (far_to labels place other) _ (FitsSigned w32) FitsInOrder (far_fits labels place other)
+    (λ d g. bind_all (pairs_to labels place cases) _ (λ text. (length text ≡ 8 * length cases) × IsBytes text) FitsInOrder (λ text e. (pairs_size labels place cases text e, pairs_bytes labels place cases f.1 text e))
+    (λ text t. some_all (LookupSwitch op d text) FitsInOrder (λ ordered. (f.0, g, short (length text) (length cases) t.0 few, eighths (length text) (length cases) t.0, ordered, t.1))))
 
 -- ---- all operations
 
-alone_fits : (pool : List PoolEntry) (made : Option Instruction) → AllIn made Fits → AllIn (alone pool made) (λ x. Fits x.0)
-alone_fits pool made fits = map_all (λ i. (i, pool)) made Fits (λ x. Fits x.0) fits (λ i h. h)
+alone_fits : (pool : List PoolEntry) (made : Option Instruction) (P : Instruction → Type 0) → AllIn made P → AllIn (alone pool made) (λ x. P x.0)
+alone_fits pool made P fits = map_all (λ i. (i, pool)) made P (λ x. P x.0) fits (λ i h. h)
 
 of_index_fits : (make : ℕ → Instruction) (need : Option (ℕ × List PoolEntry)) → AllIn need Small → ((i : ℕ) → i < 65536 → Fits (make i)) → AllIn (of_index make need) (λ x. Fits x.0)
 of_index_fits make need small each = bind_all need (λ i. Some (make i.0, i.1)) Small (λ x. Fits x.0) small (λ i s. some_all (make i.0, i.1) (λ x. Fits x.0) (each i.0 s.0))
@@ -174,27 +167,40 @@ iinc_fits : (op n : ℕ) (by : ℤ) → form_of op ≡ Some forms.Iinc → n < 6
 iinc_fits op n by is few fits true e = let p = parts (nat_lt n 256) (fits_byte by) e in (is, ltb-true n 256 p.0, byte_fits by p.1)
 iinc_fits op n by is few fits false e = (wide_is, few, fits)
 
-resolved_fits : (labels : List Label) (place : ℕ) (o : Operation) (pool : List PoolEntry) → Formed o → length pool < 65536 → size place o < 65536 → AllIn (resolved labels place o pool) (λ x. Fits x.0)
+-- What fits, fits where its keys ascend.
+in_order : (o : Option (Instruction × List PoolEntry)) → AllIn o (λ x. Fits x.0) → AllIn o (λ x. FitsInOrder x.0)
+in_order o fits x e ordered = fits x e
+
+resolved_fits : (labels : List Label) (place : ℕ) (o : Operation) (pool : List PoolEntry) → Formed o → length pool < 65536 → size place o < 65536 → AllIn (resolved labels place o pool) (λ x. FitsInOrder x.0)
 unfolding resolved size
-resolved_fits labels place (operation.Plain op) pool f few bound = some_all (one (Plain op) pool) (λ x. Fits x.0) f
-resolved_fits labels place (operation.Byte op n) pool f few bound = some_all (one (Byte op n) pool) (λ x. Fits x.0) f
-resolved_fits labels place (operation.Short op n) pool f few bound = some_all (one (Short op n) pool) (λ x. Fits x.0) f
+resolved_fits labels place (operation.Plain op) pool f few bound =
+    in_order _ (some_all (one (Plain op) pool) (λ x. Fits x.0) f)
+resolved_fits labels place (operation.Byte op n) pool f few bound =
+    in_order _ (some_all (one (Byte op n) pool) (λ x. Fits x.0) f)
+resolved_fits labels place (operation.Short op n) pool f few bound =
+    in_order _ (some_all (one (Short op n) pool) (λ x. Fits x.0) f)
 resolved_fits labels place (operation.Load op k) pool f few bound =
-    bind_all (constant_needed k pool) _ Small (λ x. Fits x.0) (constant_small k pool few) (λ x s. load_fits op x f s.0 (is_near op && nat_lt 255 x.0) refl)
-resolved_fits labels place (operation.Local op n) pool f few bound = some_all (one (local_of op n) pool) (λ x. Fits x.0) (local_fits op n f.0 f.1 (nat_lt n 256) refl)
-resolved_fits labels place (operation.Iinc op n by) pool f few bound = some_all (one (iinc_of op n by) pool) (λ x. Fits x.0) (iinc_fits op n by f.0 f.1 f.2 (nat_lt n 256 && fits_byte by) refl)
+    in_order _ (bind_all (constant_needed k pool) _ Small (λ x. Fits x.0) (constant_small k pool few) (λ x s. load_fits op x f s.0 (is_near op && nat_lt 255 x.0) refl))
+resolved_fits labels place (operation.Local op n) pool f few bound =
+    in_order _ (some_all (one (local_of op n) pool) (λ x. Fits x.0) (local_fits op n f.0 f.1 (nat_lt n 256) refl))
+resolved_fits labels place (operation.Iinc op n by) pool f few bound =
+    in_order _ (some_all (one (iinc_of op n by) pool) (λ x. Fits x.0) (iinc_fits op n by f.0 f.1 f.2 (nat_lt n 256 && fits_byte by) refl))
 resolved_fits labels place (operation.Branch op label) pool f few bound =
-    alone_fits pool (option_map (Branch op) (distance_to (reach op) labels place label)) (map_all (Branch op) (distance_to (reach op) labels place label) (λ d. Fits (Branch op d)) Fits (branch_fits op labels place label f) (λ d h. h))
-resolved_fits labels place (operation.Member op kind m) pool f few bound = of_index_fits (Member op) (member_needed kind m pool) (member_small kind m pool few) (λ i h. (f, h))
+    in_order _ (alone_fits pool (option_map (Branch op) (distance_to (reach op) labels place label)) Fits (map_all (Branch op) (distance_to (reach op) labels place label) (λ d. Fits (Branch op d)) Fits (branch_fits op labels place label f) (λ d h. h)))
+resolved_fits labels place (operation.Member op kind m) pool f few bound =
+    in_order _ (of_index_fits (Member op) (member_needed kind m pool) (member_small kind m pool few) (λ i h. (f, h)))
 resolved_fits labels place (operation.Interface op m slots) pool f few bound =
-    of_index_fits (λ i. Interface op i slots 0) (member_needed kinds.InterfaceMethod m pool) (member_small kinds.InterfaceMethod m pool few) (λ i h. (f.0, h, f.1, omega arith))
-resolved_fits labels place (operation.ClassOf op name) pool f few bound = of_index_fits (ClassOf op) (class_needed name pool) (class_small name pool few) (λ i h. (f, h))
-resolved_fits labels place (operation.NewArray op code) pool f few bound = some_all (one (NewArray op code) pool) (λ x. Fits x.0) f
+    in_order _ (of_index_fits (λ i. Interface op i slots 0) (member_needed kinds.InterfaceMethod m pool) (member_small kinds.InterfaceMethod m pool few) (λ i h. (f.0, h, f.1, omega arith)))
+resolved_fits labels place (operation.ClassOf op name) pool f few bound =
+    in_order _ (of_index_fits (ClassOf op) (class_needed name pool) (class_small name pool few) (λ i h. (f, h)))
+resolved_fits labels place (operation.NewArray op code) pool f few bound =
+    in_order _ (some_all (one (NewArray op code) pool) (λ x. Fits x.0) f)
 resolved_fits labels place (operation.MultiArray op name dimensions) pool f few bound =
-    of_index_fits (λ i. MultiArray op i dimensions) (class_needed name pool) (class_small name pool few) (λ i h. (f.0, h, f.1))
-resolved_fits labels place (operation.TableSwitch op low other targets) pool f few bound = alone_fits pool (table_of labels place op low other targets) (table_fits labels place op low other targets f)
+    in_order _ (of_index_fits (λ i. MultiArray op i dimensions) (class_needed name pool) (class_small name pool few) (λ i h. (f.0, h, f.1)))
+resolved_fits labels place (operation.TableSwitch op low other targets) pool f few bound =
+    in_order _ (alone_fits pool (table_of labels place op low other targets) Fits (table_fits labels place op low other targets f))
 resolved_fits labels place (operation.LookupSwitch op other cases) pool f few bound =
-    alone_fits pool (lookup_of labels place op other cases) (lookup_fits labels place op other cases f (few_cases (length cases) _ bound))
+    alone_fits pool (lookup_of labels place op other cases) FitsInOrder (lookup_fits labels place op other cases f (few_cases (length cases) _ bound))
 
 -- ---- what fits is read again
 
@@ -219,5 +225,6 @@ lines_decode word operands o code after line few e =
       instruction = a.instruction;
       pool = a.pool;
       means = a.means;
-      decodes = λ behind. ap (λ (b : List ℕ). decoded (b ++ behind) pc) bytes ∙ read_again pc a.instruction code.bytes behind refl fits ∙ ap (λ (b : List ℕ). Ok (a.instruction, length b)) (sym bytes);
+      spelled = bytes;
+      decodes = λ ordered behind. ap (λ (b : List ℕ). decoded (b ++ behind) pc) bytes ∙ read_again pc a.instruction code.bytes behind refl (fits ordered) ∙ ap (λ (b : List ℕ). Ok (a.instruction, length b)) (sym bytes);
     }

@@ -1,5 +1,5 @@
 -- What the grammar of a line says of its operation: the opcode has the form of the operands, and the numbers fit.
-use Rattle.std.proofs.Common.{◌≡◌, ℕ, zero, suc, ℤ, pos, negsuc, ◌+◌, ◌<◌, ◌≤◌, Bool, true, false, cond, List, [], ◌∷◌, length, map, Option, Some, None, ◌⊎◌, inl, inr, refl, arith}
+use Rattle.std.proofs.Common.{◌≡◌, ℕ, zero, suc, ℤ, pos, negsuc, ◌+◌, ◌<◌, ◌≤◌, Bool, true, false, cond, List, [], ◌∷◌, length, Option, Some, None, ◌⊎◌, inl, inr, refl, arith}
 use Rattle.std.specs.Prelude.{⊤, FitsSigned, nat_le, nat_lt, neg_ℤ, ◌&&◌, ◌==◌}
 use Rattle.std.specs.Int.{w8, w16, w32}
 use Rattle.std.specs.List.{AllByRecursion}
@@ -12,7 +12,6 @@ use Rattle.class_tree.specs.WellFormed.{parameter_slots}
 use Rattle.jsa_ops.specs.declared.form.Form.{Form}
 use Rattle.jsa_ops.specs.declared.form.Form.TheVariants as forms
 use Rattle.jsa_ops.specs.Opcodes.{form_of}
-use Rattle.jsa_ops.specs.Spelling.{ascend}
 use Rattle.asm_text.specs.declared.statement.MemberKind.TheVariants as kinds
 use Rattle.asm_text.specs.declared.statement.SwitchCase.{SwitchCase}
 use Rattle.asm_text.specs.declared.statement.Operation.{Operation}
@@ -117,7 +116,7 @@ Formed (operation.ClassOf op name) = form_of op ≡ Some forms.ClassOf
 Formed (operation.NewArray op code) = (form_of op ≡ Some forms.NewArray) × (code < 256)
 Formed (operation.MultiArray op name dimensions) = (form_of op ≡ Some forms.MultiArray) × (dimensions < 256)
 Formed (operation.TableSwitch op low other targets) = (form_of op ≡ Some forms.TableSwitch) × FitsSigned w32 low × (0 < length targets)
-Formed (operation.LookupSwitch op other cases) = (form_of op ≡ Some forms.LookupSwitch) × AllByRecursion KeyFits cases × (ascend (map (λ c. c.key) cases) ≡ true)
+Formed (operation.LookupSwitch op other cases) = (form_of op ≡ Some forms.LookupSwitch) × AllByRecursion KeyFits cases
 
 case_fits : (key label : List ℕ) → AllIn (case_of key label) KeyFits
 case_fits key label =
@@ -205,7 +204,7 @@ formed_by (Some forms.TableSwitch) op of_interface (a ∷ []) is = λ y e. absur
 formed_by (Some forms.TableSwitch) op of_interface (a ∷ b ∷ []) is = λ y e. absurd cc
 formed_by (Some forms.LookupSwitch) op of_interface (other ∷ rest) is =
     when_all (is_word other) _ Formed (bind_all (cases_of rest) _ (AllByRecursion KeyFits) Formed (cases_fit rest)
-    (λ cases h. tested_all (ascend (map (λ c. c.key) cases)) _ Formed (λ sorted. some_all (operation.LookupSwitch op other cases) Formed (is, h, sorted))))
+    (λ cases h. some_all (operation.LookupSwitch op other cases) Formed (is, h)))
 formed_by (Some forms.LookupSwitch) op of_interface [] is = λ y e. absurd cc
 formed_by (Some forms.Wide) op of_interface rest is = λ y e. absurd cc
 

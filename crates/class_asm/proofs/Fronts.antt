@@ -1,5 +1,5 @@
 -- Texts and indices that grow along a list of what is needed.
-use Rattle.std.proofs.Common.{◌≡◌, ℕ, Option, Some, None, List, ◌++◌}
+use Rattle.std.proofs.Common.{ℕ, Option, Some, None, List, ◌++◌}
 use Rattle.class_tree.specs.declared.constant_pool.PoolEntry.{PoolEntry}
 
 abbrev pub front : {A : Type 0} → List A → Option (List A × List PoolEntry) → Option (List A × List PoolEntry)

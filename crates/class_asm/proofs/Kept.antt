@@ -16,7 +16,10 @@ use Rattle.asm_text.specs.declared.statement.FrameType.TheVariants as frame
 use Rattle.asm_text.specs.declared.statement.Operation.{Operation}
 use Rattle.asm_text.specs.declared.statement.Operation.TheVariants as operation
 use Rattle.asm_text.specs.declared.statement.MemberKind.TheVariants as kinds
-use Rattle.pool_builder.specs.Needs.{text_needed, class_needed, constant_needed, member_needed}
+use Rattle.pool_builder.specs.Needs.{utf8_needed, class_needed}
+use Rattle.pool_builder.specs.Laws.{Keeps}
+use Rattle.pool_builder.proofs.Keeping.{keeps_same, keeps_then}
+use Rattle.class_asm.specs.Needs.{constant_needed, member_needed}
 use Rattle.class_asm.specs.declared.class_draft.ClassDraft.{ClassDraft}
 use Rattle.class_asm.specs.declared.code_draft.MethodDraft.{MethodDraft}
 use Rattle.class_asm.specs.declared.code_draft.CodeDraft.{CodeDraft}
@@ -25,7 +28,7 @@ use Rattle.class_asm.specs.Labels.{Label, is_named, is_near}
 use Rattle.class_asm.specs.Code.{resolved, emitted, of_index, alone}
 use Rattle.class_asm.specs.Frames.{short_place, type_text, types_text, counted_types, frame_text, delta}
 use Rattle.class_asm.specs.Drafts.{optional_class_needed, classes_needed, value_needed, field_added, method_begun, code_begun, label_passed, operation_added, handler_added, table_begun, table_grown, frame_added, code_ended}
-use Rattle.class_asm.proofs.Keeping.{Keeps, keeps_same, keeps_then, AllIn, bind_all, when_all, some_all, KeepsIn, from, text_keeps, class_keeps, constant_keeps, member_keeps}
+use Rattle.class_asm.proofs.Keeping.{AllIn, bind_all, when_all, some_all, KeepsIn, from, utf8_keeps, class_keeps, constant_keeps, member_keeps}
 
 -- ---- needs
 
@@ -45,7 +48,7 @@ value_keeps : (value : Option Constant) (pool : List PoolEntry) → KeepsIn pool
 unfolding value_needed
 value_keeps None pool = some_all (0, pool) (λ x. Keeps pool x.1) (keeps_same pool)
 value_keeps (Some value) pool =
-    bind_all (text_needed (codes "ConstantValue") pool) (λ name. constant_needed value name.1) (λ x. Keeps pool x.1) (λ x. Keeps pool x.1) (text_keeps (codes "ConstantValue") pool)
+    bind_all (utf8_needed (codes "ConstantValue") pool) (λ name. constant_needed value name.1) (λ x. Keeps pool x.1) (λ x. Keeps pool x.1) (utf8_keeps (codes "ConstantValue") pool)
     (λ name k. from pool name.1 _ k (constant_keeps value name.1))
 
 -- ---- frames
@@ -136,8 +139,8 @@ goes_then a b c f g = record { pool = keeps_then a.pool b.pool c.pool f.pool g.p
 pub field_goes : (line : FieldLine) (class : ClassDraft) → AllIn (field_added line class) (Goes class)
 unfolding field_added
 field_goes line class =
-    when_all _ _ (Goes class) (bind_all (text_needed line.name class.pool) _ (λ x. Keeps class.pool x.1) (Goes class) (text_keeps line.name class.pool)
-    (λ n k. bind_all (text_needed line.desc n.1) _ (λ x. Keeps class.pool x.1) (Goes class) (from class.pool n.1 _ k (text_keeps line.desc n.1))
+    when_all _ _ (Goes class) (bind_all (utf8_needed line.name class.pool) _ (λ x. Keeps class.pool x.1) (Goes class) (utf8_keeps line.name class.pool)
+    (λ n k. bind_all (utf8_needed line.desc n.1) _ (λ x. Keeps class.pool x.1) (Goes class) (from class.pool n.1 _ k (utf8_keeps line.desc n.1))
     (λ d l. bind_all (value_needed line.value d.1) _ (λ x. Keeps class.pool x.1) (Goes class) (from class.pool d.1 _ l (value_keeps line.value d.1))
     (λ v m. some_all _ (Goes class) (record { pool = m; this = refl })))))
 
@@ -146,14 +149,14 @@ field_goes line class =
 pub method_goes : (line : MethodLine) (class : ClassDraft) → AllIn (method_begun line class) (λ m. Goes class m.class)
 unfolding method_begun
 method_goes line class =
-    when_all _ _ (λ m. Goes class m.class) (bind_all (text_needed line.name class.pool) _ (λ x. Keeps class.pool x.1) (λ m. Goes class m.class) (text_keeps line.name class.pool)
-    (λ n k. bind_all (text_needed line.desc n.1) _ (λ x. Keeps class.pool x.1) (λ m. Goes class m.class) (from class.pool n.1 _ k (text_keeps line.desc n.1))
+    when_all _ _ (λ m. Goes class m.class) (bind_all (utf8_needed line.name class.pool) _ (λ x. Keeps class.pool x.1) (λ m. Goes class m.class) (utf8_keeps line.name class.pool)
+    (λ n k. bind_all (utf8_needed line.desc n.1) _ (λ x. Keeps class.pool x.1) (λ m. Goes class m.class) (from class.pool n.1 _ k (utf8_keeps line.desc n.1))
     (λ d l. some_all _ (λ m. Goes class m.class) (record { pool = l; this = refl }))))
 
 pub code_goes : (line : CodeLine) (labels : List Label) (m : MethodDraft) → AllIn (code_begun line labels m) (λ code. Goes m.class code.method.class)
 unfolding code_begun
 code_goes line labels m =
-    bind_all (text_needed (codes "Code") m.class.pool) _ (λ x. Keeps m.class.pool x.1) (λ code. Goes m.class code.method.class) (text_keeps (codes "Code") m.class.pool)
+    bind_all (utf8_needed (codes "Code") m.class.pool) _ (λ x. Keeps m.class.pool x.1) (λ code. Goes m.class code.method.class) (utf8_keeps (codes "Code") m.class.pool)
     (λ n k. some_all _ (λ code. Goes m.class code.method.class) (record { pool = k; this = refl }))
 
 abbrev CodeGoes : CodeDraft → CodeDraft → Type 0
@@ -193,7 +196,7 @@ handler_goes line code =
 table_keeps : (frames : Option FrameTable) (pool : List PoolEntry) → KeepsIn pool (table_begun frames pool)
 unfolding table_begun
 table_keeps (Some table) pool = some_all (table, pool) (λ x. Keeps pool x.1) (keeps_same pool)
-table_keeps None pool = bind_all (text_needed (codes "StackMapTable") pool) _ (λ x. Keeps pool x.1) (λ x. Keeps pool x.1) (text_keeps (codes "StackMapTable") pool) (λ name k. some_all _ (λ x. Keeps pool x.1) k)
+table_keeps None pool = bind_all (utf8_needed (codes "StackMapTable") pool) _ (λ x. Keeps pool x.1) (λ x. Keeps pool x.1) (utf8_keeps (codes "StackMapTable") pool) (λ name k. some_all _ (λ x. Keeps pool x.1) k)
 
 grown_keeps : (line : FrameLine) (labels : List Label) (table : FrameTable) (pool : List PoolEntry) → KeepsIn pool (table_grown line labels table pool)
 unfolding table_grown

@@ -1,5 +1,5 @@
 -- A map from names to places, as a list of labels.
-use Rattle.std.proofs.Common.{◌≡◌, ◌∙◌, ℕ, suc, ◌+◌, Bool, true, false, cond, not, ◌||◌, nat_lt, List, [], ◌∷◌, ◌++◌, map, length, position, Option, Some, None, is_some, refl, sym, ap}
+use Rattle.std.proofs.Common.{◌≡◌, ◌∙◌, ℕ, suc, ◌+◌, Bool, true, false, cond, not, ◌||◌, nat_lt, List, [], ◌∷◌, ◌++◌, length, position, Option, Some, None, is_some, refl, sym, ap}
 use Rattle.std.specs.Global.{Vec}
 use Rattle.std.specs.List.{list_any, position_or_len}
 use Rattle.std.specs.Map.{lookup, keys_of}

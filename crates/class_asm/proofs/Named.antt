@@ -19,12 +19,13 @@ use Rattle.asm_text.specs.Numbers.{flags, natural}
 use Rattle.asm_text.specs.Words.{is_word, is_path_word, is_class_word}
 use Rattle.asm_text.specs.Operations.{operation_of}
 use Rattle.asm_text.specs.Grammar.{is_dash, is_bar, type_of, class_line, version_line, field_line, method_line, code_line, catch_line, frame_line, end_line, is_comment, label_of, label_or_operation, statement_of, line_statement, statements, optional_value}
-use Rattle.pool_builder.specs.Needs.{needed, text_needed, class_needed}
+use Rattle.pool_builder.specs.Needs.{needed, utf8_needed, class_needed}
+use Rattle.pool_builder.specs.Laws.{Grown}
 use Rattle.class_asm.specs.declared.class_draft.ClassDraft.{ClassDraft}
 use Rattle.class_asm.specs.declared.place.Place.TheVariants as place
 use Rattle.class_asm.specs.Assembly.{assembled}
 use Rattle.class_asm.specs.Laws.{HasPath, ClassesHavePaths}
-use Rattle.class_asm.proofs.Keeping.{Grown, AllIn, bind_all, when_all, some_all}
+use Rattle.class_asm.proofs.Keeping.{AllIn, bind_all, when_all, some_all}
 use Rattle.class_asm.proofs.Formed.{map_all, any, tested_all, parts}
 use Rattle.class_asm.proofs.BuiltTrees.{Lasts, BeginsSo, LineBeginsSo, begun_all, run_all, first_pool}
 
@@ -184,7 +185,7 @@ abbrev named_pool : List ℕ → List PoolEntry
 named_pool name = entries.Unusable ∷ entries.Utf8 name ∷ entries.Class 1 ∷ []
 
 class_named : (name : List ℕ) → AllIn (class_needed name first_pool) (λ x. class_name x.1 x.0 ≡ Some name)
-unfolding class_needed text_needed needed
+unfolding class_needed utf8_needed needed
 class_named name = of (nat_lt 65535 (length name)) where
   of : (long : Bool) → AllIn (cond long None (needed (entries.Utf8 name) first_pool) >>= λ x. needed (entries.Class x.0) x.1) (λ x. class_name x.1 x.0 ≡ Some name)
   of true = λ y e. absurd cc

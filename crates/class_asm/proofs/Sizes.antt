@@ -4,18 +4,19 @@ use Rattle.std.specs.Prelude.{nat_lt, ◌&&◌}
 use Rattle.std.specs.Option.{option_map}
 use Rattle.std.proofs.lemmas.List.{length-replicate}
 use Rattle.jsa_base.specs.Reading.{◌>>=◌}
-use Rattle.jsa_base.specs.Spelling.{u4}
+use Rattle.jsa_base.specs.Spelling.{u4, s4}
 use Rattle.jsa_base.proofs.Codecs.{bind_some, some_is}
 use Rattle.class_tree.specs.declared.constant_pool.PoolEntry.{PoolEntry}
 use Rattle.jsa_ops.specs.declared.form.Form.{Form}
 use Rattle.jsa_ops.specs.declared.form.Form.TheVariants as forms
 use Rattle.jsa_ops.specs.Opcodes.{form_of}
 use Rattle.jsa_ops.specs.Instruction.{Instruction, Plain, Byte, Short, Constant, Local, Iinc, Wide, WideIinc, Branch, Member, Interface, ClassOf, NewArray, MultiArray, TableSwitch, LookupSwitch}
-use Rattle.jsa_ops.specs.Spelling.{text_of, padding, s4, index_text, distance_text}
+use Rattle.jsa_ops.specs.Spelling.{text_of, padding, index_text, distance_text}
 use Rattle.asm_text.specs.declared.statement.MemberKind.TheVariants as kinds
 use Rattle.asm_text.specs.declared.statement.SwitchCase.{SwitchCase}
 use Rattle.asm_text.specs.declared.statement.Operation.TheVariants as operation
-use Rattle.pool_builder.specs.Needs.{constant_needed, class_needed, member_needed}
+use Rattle.pool_builder.specs.Needs.{class_needed}
+use Rattle.class_asm.specs.Needs.{constant_needed, member_needed}
 use Rattle.class_asm.specs.Labels.{Label, is_near, is_near_form, is_far, is_far_form, fits_byte, size}
 use Rattle.class_asm.specs.Code.{resolved, far_to, distance_to, reach, distances_to, pairs_to, high_of, table_of, lookup_of, local_of, iinc_of, of_index, alone}
 use Rattle.class_asm.specs.Laws.{SizesStand}

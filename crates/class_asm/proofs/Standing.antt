@@ -17,7 +17,7 @@ use Rattle.asm_text.specs.declared.statement.FrameLine.{FrameLine}
 use Rattle.asm_text.specs.declared.statement.Operation.{Operation}
 use Rattle.asm_text.specs.declared.statement.Statement.{Statement}
 use Rattle.asm_text.specs.declared.statement.Statement.TheVariants as statement
-use Rattle.pool_builder.specs.Needs.{text_needed}
+use Rattle.pool_builder.specs.Needs.{utf8_needed}
 use Rattle.class_asm.specs.declared.code_draft.MethodDraft.{MethodDraft}
 use Rattle.class_asm.specs.declared.code_draft.CodeDraft.{CodeDraft}
 use Rattle.class_asm.specs.Labels.{Label, is_named, place_of, with_label, labels_of, size, behind}
@@ -180,7 +180,7 @@ operation_stands o code after rest s e =
 begin_stands : (line : CodeLine) (m : MethodDraft) (rest : List (Option Statement)) → AllIn (code_begun line (labels_of ([], 0) rest) m) (λ code. Stands code rest)
 unfolding code_begun
 begin_stands line m rest =
-    bind_all (text_needed (codes "Code") m.class.pool) _ (λ x. ⊤) (λ code. Stands code rest) (λ x e. tt)
+    bind_all (utf8_needed (codes "Code") m.class.pool) _ (λ x. ⊤) (λ code. Stands code rest) (λ x e. tt)
     (λ n t. some_all _ (λ code. Stands code rest) (record { front = []; labels = refl; passed = refl; few = omega arith }))
 
 handler_stands : (line : CatchLine) (code : CodeDraft) (rest : List (Option Statement)) → Stands code (Some (statement.Catch line) ∷ rest) → AllIn (handler_added line code) (λ after. Stands after rest)

@@ -1,16 +1,17 @@
 -- The instructions that operations stand for.
-use Rattle.std.specs.Prelude.{ℕ, ℤ, pos, neg_ℤ, ◌+ℤ◌, ◌-ℤ◌, ◌-◌, int_le, int_lt, List, [], ◌∷◌, ◌++◌, length, Bool, true, false, ◌&&◌, ◌==◌, nat_lt, Option, Some, None, if◌then◌else◌}
-use Rattle.std.specs.List.{flat_map}
+use Rattle.std.specs.Prelude.{ℕ, ℤ, pos, neg_ℤ, ◌+ℤ◌, ◌-ℤ◌, ◌-◌, int_le, int_lt, List, [], ◌∷◌, ◌++◌, length, Bool, ◌&&◌, nat_lt, Option, Some, None, if◌then◌else◌}
 use Rattle.std.specs.Option.{option_map}
 use Rattle.jsa_base.specs.Reading.{◌>>=◌}
+use Rattle.jsa_base.specs.Spelling.{s4}
 use Rattle.jsa_ops.specs.Instruction.{Instruction, Plain, Byte, Short, Constant, Local, Iinc, Wide, WideIinc, Branch, Member, Interface, ClassOf, NewArray, MultiArray, TableSwitch, LookupSwitch}
-use Rattle.jsa_ops.specs.Spelling.{s4, text_of}
+use Rattle.jsa_ops.specs.Spelling.{text_of}
 use Rattle.class_tree.specs.declared.constant_pool.PoolEntry.{PoolEntry}
 use Rattle.asm_text.specs.declared.statement.MemberKind.TheVariants as kinds
 use Rattle.asm_text.specs.declared.statement.SwitchCase.{SwitchCase}
 use Rattle.asm_text.specs.declared.statement.Operation.{Operation}
 use Rattle.asm_text.specs.declared.statement.Operation.TheVariants as operation
-use Rattle.pool_builder.specs.Needs.{constant_needed, class_needed, member_needed}
+use Rattle.pool_builder.specs.Needs.{class_needed}
+use Rattle.class_asm.specs.Needs.{constant_needed, member_needed}
 use Rattle.class_asm.specs.Labels.{Label, place_of, is_near, is_far, fits_byte}
 
 -- ---- distances

@@ -15,7 +15,8 @@ use Rattle.asm_text.specs.declared.statement.CodeLine.{CodeLine}
 use Rattle.asm_text.specs.declared.statement.CatchLine.{CatchLine}
 use Rattle.asm_text.specs.declared.statement.FrameLine.{FrameLine}
 use Rattle.asm_text.specs.declared.statement.Operation.{Operation}
-use Rattle.pool_builder.specs.Needs.{text_needed, class_needed, constant_needed}
+use Rattle.pool_builder.specs.Needs.{utf8_needed, class_needed}
+use Rattle.class_asm.specs.Needs.{constant_needed}
 use Rattle.class_asm.specs.declared.class_draft.ClassDraft.{ClassDraft}
 use Rattle.class_asm.specs.declared.code_draft.MethodDraft.{MethodDraft}
 use Rattle.class_asm.specs.declared.code_draft.CodeDraft.{CodeDraft}
@@ -66,14 +67,14 @@ tree_of class = record { major = class.major; flags = class.flags; pool = class.
 unfoldable pub value_needed : Option Constant → List PoolEntry → Option (ℕ × List PoolEntry)
 value_needed None pool = Some (0, pool)
 value_needed (Some value) pool = do
-  name ← text_needed (codes "ConstantValue") pool
+  name ← utf8_needed (codes "ConstantValue") pool
   constant_needed value name.1
 
 unfoldable pub field_added : FieldLine → ClassDraft → Option ClassDraft
 field_added line class = do
   few ← when (has_room class.fields)
-  name ← text_needed line.name class.pool
-  desc ← text_needed line.desc name.1
+  name ← utf8_needed line.name class.pool
+  desc ← utf8_needed line.desc name.1
   value ← value_needed line.value desc.1
   Some (record class { pool = value.1; fields = class.fields ++ record { flags = line.flags; name = name.0; desc = desc.0; value = value.0 } ∷ [] })
 
@@ -85,8 +86,8 @@ method_named line class names = record { class = class; flags = line.flags; name
 unfoldable pub method_begun : MethodLine → ClassDraft → Option MethodDraft
 method_begun line class = do
   few ← when (has_room class.methods)
-  name ← text_needed line.name class.pool
-  desc ← text_needed line.desc name.1
+  name ← utf8_needed line.name class.pool
+  desc ← utf8_needed line.desc name.1
   Some (method_named line (record class { pool = desc.1 }) (name.0, desc.0))
 
 abbrev pub method_closed : MethodDraft → Option CodeTree → ClassDraft
@@ -100,7 +101,7 @@ with_pool m pool = record m { class = record (m.class) { pool = pool } }
 -- The name of the attribute, then the code, whose labels are these.
 unfoldable pub code_begun : CodeLine → List Label → MethodDraft → Option CodeDraft
 code_begun line labels m = do
-  name ← text_needed (codes "Code") m.class.pool
+  name ← utf8_needed (codes "Code") m.class.pool
   Some (record { method = with_pool m name.1; stack = line.stack; locals = line.locals; bytes = []; handlers = []; frames = None; labels = labels; passed = 0 })
 
 -- A label stands once in a code: it is the first of its name among the labels, of which so many stand before it.
@@ -130,7 +131,7 @@ handler_added line code = do
 -- The name of the attribute stands before its content, where the first frame is.
 unfoldable pub table_begun : Option FrameTable → List PoolEntry → Option (FrameTable × List PoolEntry)
 table_begun (Some table) pool = Some (table, pool)
-table_begun None pool = text_needed (codes "StackMapTable") pool >>= λ name. Some (record { count = 0; last = None; text = [] }, name.1)
+table_begun None pool = utf8_needed (codes "StackMapTable") pool >>= λ name. Some (record { count = 0; last = None; text = [] }, name.1)
 
 -- the table with a frame behind the others, whose number stands in two bytes
 unfoldable pub table_grown : FrameLine → List Label → FrameTable → List PoolEntry → Option (FrameTable × List PoolEntry)

@@ -1,5 +1,5 @@
 -- Stack map frames (JVMS 4.7.4), each written as a full frame.
-use Rattle.std.specs.Prelude.{ℕ, ◌-◌, List, [], ◌∷◌, ◌++◌, length, Bool, true, false, nat_lt, Option, Some, None, if◌then◌else◌}
+use Rattle.std.specs.Prelude.{ℕ, ◌-◌, List, [], ◌∷◌, ◌++◌, length, nat_lt, Option, Some, None, if◌then◌else◌}
 use Rattle.jsa_base.specs.Reading.{◌>>=◌}
 use Rattle.jsa_base.specs.Spelling.{u1, u2}
 use Rattle.class_tree.specs.declared.constant_pool.PoolEntry.{PoolEntry}

@@ -3,7 +3,6 @@ use Rattle.std.specs.Prelude.{◌≡◌, ℕ, ℤ, pos, neg_ℤ, ◌+◌, ◌*�
 use Rattle.std.specs.Global.{Vec}
 use Rattle.std.specs.List.{list_any}
 use Rattle.std.specs.Str.{bytes_eq}
-use Rattle.jsa_base.specs.Reading.{◌>>=◌}
 use Rattle.jsa_ops.specs.Opcodes.{form_of}
 use Rattle.jsa_ops.specs.Spelling.{padding}
 use Rattle.jsa_ops.specs.declared.form.Form.{Form}

@@ -1,5 +1,5 @@
 -- What the definitions are worth.
-use Rattle.std.specs.Prelude.{◌≡◌, ℕ, ◌<◌, List, [], ◌∷◌, ◌++◌, length, Option, Some, None, Ok}
+use Rattle.std.specs.Prelude.{◌≡◌, true, ℕ, ◌<◌, List, [], ◌∷◌, ◌++◌, length, Option, Some, None, Ok}
 use Rattle.std.specs.List.{AllByRecursion}
 use Rattle.jsa_names.specs.Paths.{path_of}
 use Rattle.jsa_ops.specs.Instruction.{Instruction}
@@ -8,16 +8,21 @@ use Rattle.jsa_ops.specs.Reading.{decoded}
 use Rattle.class_tree.specs.declared.constant_pool.PoolEntry.{PoolEntry}
 use Rattle.class_tree.specs.declared.tree.ClassTree.{ClassTree}
 use Rattle.class_tree.specs.WellFormed.{class_name}
+use Rattle.asm_text.specs.declared.statement.Constant.{Constant}
+use Rattle.asm_text.specs.declared.statement.MemberKind.{MemberKind}
+use Rattle.asm_text.specs.declared.statement.MemberName.{MemberName}
 use Rattle.asm_text.specs.declared.statement.Operation.{Operation}
 use Rattle.asm_text.specs.declared.statement.CatchLine.{CatchLine}
 use Rattle.asm_text.specs.declared.statement.FrameLine.{FrameLine}
 use Rattle.asm_text.specs.declared.statement.Statement.{Statement}
 use Rattle.asm_text.specs.declared.statement.Statement.TheVariants as statement
 use Rattle.asm_text.specs.Operations.{operation_of}
-use Rattle.pool_builder.specs.Laws.{IsBuilt}
+use Rattle.pool_builder.specs.Laws.{IsBuilt, Builds}
 use Rattle.class_asm.specs.declared.code_draft.MethodDraft.{MethodDraft}
 use Rattle.class_asm.specs.declared.code_draft.CodeDraft.{CodeDraft}
 use Rattle.asm_text.specs.declared.statement.CodeLine.{CodeLine}
+use Rattle.class_asm.specs.Keys.{has_ascending_keys}
+use Rattle.class_asm.specs.Needs.{constant_needed, member_needed}
 use Rattle.class_asm.specs.Labels.{Label, place_of, labels_of, size}
 use Rattle.class_asm.specs.Code.{resolved}
 use Rattle.class_asm.specs.Drafts.{code_begun, label_passed, operation_added, handler_added, frame_added}
@@ -53,19 +58,25 @@ pub record LabelsStand : Type 0 where
 
 -- ---- instructions
 
--- What a line adds to a code decodes to the line's instruction, whatever comes behind it, and the next place is the end
--- of what was added.
+-- What a line adds to a code is the spelling of the line's instruction. It decodes to it where the keys of a lookupswitch
+-- ascend (JVMS 4.9.1), whatever comes behind it, and the next place is the end of what was added.
 pub record Decodes (o : Operation) (code after : CodeDraft) : Type 0 where
   pub instruction : Instruction
   pub pool : List PoolEntry
   pub means : resolved code.labels (length code.bytes) o code.method.class.pool ≡ Some (instruction, pool)
-  pub decodes : (behind : List ℕ) → decoded (after.bytes ++ behind) (length code.bytes) ≡ Ok (instruction, length after.bytes)
+  pub spelled : after.bytes ≡ code.bytes ++ text_of (length code.bytes) instruction
+  pub decodes : has_ascending_keys instruction ≡ true → (behind : List ℕ) → decoded (after.bytes ++ behind) (length code.bytes) ≡ Ok (instruction, length after.bytes)
 
 -- So it is of each line, in a pool whose count fits two bytes, as those of a text do (`PoolsAreBuilt`).
 abbrev pub LinesDecode : Type 0
 LinesDecode = (word : List ℕ) (operands : List (List ℕ)) (o : Operation) (code after : CodeDraft) → operation_of word operands ≡ Some o → length code.method.class.pool < 65536 → operation_added o code ≡ Some after → Decodes o code after
 
 -- ---- constant pools
+
+-- What the constants and the members of lines need leaves a pool that keeps.
+pub record NeedsAreBuilt : Type 0 where
+  pub constant : (k : Constant) → Builds (constant_needed k)
+  pub member : (kind : MemberKind) (m : MemberName) → Builds (member_needed kind m)
 
 -- Each tree of a text has a pool with each entry once, and the parts of an entry before it.
 abbrev pub PoolsAreBuilt : Type 0

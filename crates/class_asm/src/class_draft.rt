@@ -3,6 +3,7 @@ ghost use Rattle.std.specs.Prelude.{◌≡◌, Some};
 ghost use Rattle.asm_text.specs.Outcome.{Gives, Yields, Does};
 ghost use Rattle.class_asm.specs.Drafts as spec;
 
+use crate::needs::{class_index, constant_index, utf8_index};
 use asm_text::{ClassLine, Constant, FieldLine, LineFault};
 use class_tree::{ClassTree, FieldTree, MethodTree};
 use pool_builder::PoolBuilder;
@@ -38,7 +39,7 @@ pub fn optional_class(
     ensures { Gives (λ i. i) result pool.new (spec.optional_class_needed name.now pool.old) }
 {
     match name {
-        Some(name) => pool.class(alloc, name.as_slice()),
+        Some(name) => class_index(alloc, name.as_slice(), pool),
         None => Ok(0),
     }
 }
@@ -57,7 +58,7 @@ fn classes(
         let [name, more @ ..] = rest else {
             return Ok(indices);
         };
-        let index = pool.class(alloc, name.as_slice())?;
+        let index = class_index(alloc, name.as_slice(), pool)?;
         indices.push(index)?;
         rest = more;
     }
@@ -74,7 +75,7 @@ fn class_names(
     if line.interfaces.len() > 65535 {
         return Err(LineFault::Outside);
     }
-    let this = pool.class(alloc, line.name.as_slice())?;
+    let this = class_index(alloc, line.name.as_slice(), pool)?;
     let sup = optional_class(alloc, &line.sup, pool)?;
     let interfaces = classes(alloc, line.interfaces.as_slice(), pool)?;
     Ok((this, sup, interfaces))
@@ -107,8 +108,8 @@ fn value(alloc: Global, value: &Option<Constant>, pool: &mut PoolBuilder) -> Res
 {
     match value {
         Some(value) => {
-            pool.text(alloc, b"ConstantValue")?;
-            pool.constant(alloc, value)
+            utf8_index(alloc, b"ConstantValue", pool)?;
+            constant_index(alloc, value, pool)
         }
         None => Ok(0),
     }
@@ -124,8 +125,8 @@ impl ClassDraft {
         if self.fields.len() >= 65535 {
             return Err(LineFault::Outside);
         }
-        let name = self.pool.text(alloc, line.name.as_slice())?;
-        let desc = self.pool.text(alloc, line.desc.as_slice())?;
+        let name = utf8_index(alloc, line.name.as_slice(), &mut self.pool)?;
+        let desc = utf8_index(alloc, line.desc.as_slice(), &mut self.pool)?;
         let value = value(alloc, &line.value, &mut self.pool)?;
         self.fields.push(FieldTree {
             flags: line.flags,

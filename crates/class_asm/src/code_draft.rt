@@ -5,11 +5,13 @@ ghost use Rattle.asm_text.specs.Outcome.{Gives, Yields, Does};
 ghost use Rattle.class_asm.specs.Drafts as spec;
 
 use crate::class_draft::{ClassDraft, leave_class, optional_class};
-use crate::frames::{delta, frame_text, put_u2, short_place};
+use crate::frames::{delta, frame_text, short_place};
 use crate::labels::Labels;
+use crate::needs::utf8_index;
 use crate::resolving::emit;
 use asm_text::{CatchLine, CodeLine, FrameLine, LineFault, MethodLine, Operation};
 use class_tree::{CodeTree, Handler, MethodTree};
+use jsa_base::put_u2;
 use pool_builder::PoolBuilder;
 use sqlite_items::Items;
 use std::alloc::{AllocError, Global};
@@ -61,8 +63,8 @@ fn method_names(
     if class.methods.len() >= 65535 {
         return Err(LineFault::Outside);
     }
-    let name = class.pool.text(alloc, line.name.as_slice())?;
-    let desc = class.pool.text(alloc, line.desc.as_slice())?;
+    let name = utf8_index(alloc, line.name.as_slice(), &mut class.pool)?;
+    let desc = utf8_index(alloc, line.desc.as_slice(), &mut class.pool)?;
     Ok((name, desc))
 }
 
@@ -125,7 +127,7 @@ pub fn begin_code(
     ensures { Yields (λ c. c) result (spec.code_begun line.now labels method) }
 {
     let mut method = method;
-    match method.class.pool.text(alloc, b"Code") {
+    match utf8_index(alloc, b"Code", &mut method.class.pool) {
         Ok(_) => Ok(CodeDraft {
             method,
             stack: line.stack,
@@ -159,7 +161,7 @@ fn begin_table(
     if let Some(table) = frames {
         return Ok(table);
     }
-    pool.text(alloc, b"StackMapTable")?;
+    utf8_index(alloc, b"StackMapTable", pool)?;
     Ok(FrameTable {
         count: 0,
         last: None,
@@ -201,10 +203,10 @@ fn grow_table(
 fn table_content(alloc: Global, table: FrameTable) -> Result<Items<u8>, AllocError>
     ensures { IfOk result (λ t. t ≡ spec.table_content table) }
 {
-    let mut content = Items::new(alloc);
+    let mut content = Vec::new(alloc);
     put_u2(&mut content, table.count)?;
-    content.append(table.text)?;
-    Ok(content)
+    content.extend_from_slice(table.text.as_slice())?;
+    Ok(Items::from_vec(content))
 }
 
 fn optional_content(

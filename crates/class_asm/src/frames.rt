@@ -1,14 +1,16 @@
 //! Stack map frames (JVMS 4.7.4), each written as a full frame.
-ghost use Rattle.std.specs.Prelude.{◌≡◌, ◌++◌, OnOk, Some};
+ghost use Rattle.std.specs.Prelude.{◌++◌, Some};
 ghost use Rattle.jsa_base.specs.Spelling.{u1 as u1_text, u2 as u2_text};
 ghost use Rattle.asm_text.specs.Outcome.{Gives, Yields};
 ghost use Rattle.class_asm.specs.Frames as spec;
 
 use crate::labels::Labels;
+use crate::needs::class_index;
 use asm_text::{FrameType, LineFault};
+use jsa_base::{put_u1, put_u2};
 use pool_builder::PoolBuilder;
 use sqlite_items::Items;
-use std::alloc::{AllocError, Global};
+use std::alloc::Global;
 
 /// The place of a label. `Outside` comes where it has none, or one above 65,535.
 pub fn short_place(labels: &Labels, name: &Items<u8>) -> Result<u16, LineFault>
@@ -23,30 +25,23 @@ pub fn short_place(labels: &Labels, name: &Items<u8>) -> Result<u16, LineFault>
     Ok(place as u16)
 }
 
-pub fn put_u2(text: &mut Items<u8>, n: u16) -> Result<(), AllocError>
-    ensures { OnOk result (text.new ≡ text.old ++ u2_text n) }
-{
-    text.push((n / 256) as u8)?;
-    text.push((n % 256) as u8)
-}
-
 // The text of a tag alone.
 fn tag(alloc: Global, tag: u8) -> Result<Items<u8>, LineFault>
     ensures { Yields (λ t. t) result (Some (u1_text tag)) }
 {
-    let mut text = Items::new(alloc);
-    text.push(tag)?;
-    Ok(text)
+    let mut text = Vec::new(alloc);
+    put_u1(&mut text, tag)?;
+    Ok(Items::from_vec(text))
 }
 
 // The text of a tag with a number.
 fn tagged(alloc: Global, tag: u8, n: u16) -> Result<Items<u8>, LineFault>
     ensures { Yields (λ t. t) result (Some (u1_text tag ++ u2_text n)) }
 {
-    let mut text = Items::new(alloc);
-    text.push(tag)?;
+    let mut text = Vec::new(alloc);
+    put_u1(&mut text, tag)?;
     put_u2(&mut text, n)?;
-    Ok(text)
+    Ok(Items::from_vec(text))
 }
 
 // The text of a verification type.
@@ -68,7 +63,7 @@ fn type_text(
         FrameType::Null => tag(alloc, 5),
         FrameType::UninitializedThis => tag(alloc, 6),
         FrameType::Object(name) => {
-            let class = pool.class(alloc, name.as_slice())?;
+            let class = class_index(alloc, name.as_slice(), pool)?;
             tagged(alloc, 7, class)
         }
         FrameType::Uninitialized(label) => {
@@ -114,10 +109,10 @@ fn counted_types(
         return Err(LineFault::Outside);
     }
     let types_text = types_text(alloc, labels, types, pool)?;
-    let mut text = Items::new(alloc);
+    let mut text = Vec::new(alloc);
     put_u2(&mut text, types.len() as u16)?;
-    text.append(types_text)?;
-    Ok(text)
+    text.extend_from_slice(types_text.as_slice())?;
+    Ok(Items::from_vec(text))
 }
 
 /// The `offset_delta` of a frame (JVMS 4.7.4): how far behind the frame before it it stands, less one; of the first frame its

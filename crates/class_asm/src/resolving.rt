@@ -1,19 +1,22 @@
 //! The instructions that operations stand for.
-ghost use Rattle.std.specs.Prelude.{◌≡◌, ◌++◌, ◌≤◌, ◌<◌, ◌-◌, ◌^◌, length, pos, ◌+ℤ◌, Some, None, IfOk, OnOk};
+ghost use Rattle.std.specs.Prelude.{◌≡◌, ◌≤◌, ◌<◌, ◌-◌, ◌^◌, Some};
 ghost use Rattle.std.specs.Option.{option_map};
 ghost use Rattle.jsa_ops.specs.Instruction.{shown, Constant, Branch, Member, Interface, ClassOf, MultiArray};
-ghost use Rattle.jsa_ops.specs.Spelling.{text_of as text_at, s4};
+ghost use Rattle.jsa_ops.specs.Spelling.{text_of as text_at};
 ghost use Rattle.asm_text.specs.Outcome.{Gives, Yields, Does};
 ghost use Rattle.asm_text.specs.declared.statement.MemberKind.TheVariants.{InterfaceMethod};
-ghost use Rattle.pool_builder.specs.Needs.{constant_needed, class_needed, member_needed};
+ghost use Rattle.pool_builder.specs.Needs.{class_needed};
+ghost use Rattle.class_asm.specs.Needs.{constant_needed, member_needed};
 ghost use Rattle.class_asm.specs.Code as spec;
 
 use crate::labels::{Labels, fits_byte, is_far, is_near};
+use crate::needs::{class_index, constant_index, member_index};
 use asm_text::{Constant, LineFault, MemberKind, MemberName, Operation, SwitchCase};
+use jsa_base::put_s4;
 use jsa_ops::Instr;
 use pool_builder::PoolBuilder;
 use sqlite_items::Items;
-use std::alloc::{AllocError, Global};
+use std::alloc::Global;
 
 // The bytes of an instruction at a place.
 fn text_of(alloc: Global, place: u32, instr: &Instr<'_>) -> Result<Items<u8>, LineFault>
@@ -49,16 +52,6 @@ fn far_distance(labels: &Labels, from: u32, name: &[u8]) -> Result<i32, LineFaul
     distance(0x8000_0000, labels, from, name)
 }
 
-fn put_s4(text: &mut Items<u8>, n: i32) -> Result<(), AllocError>
-    ensures { OnOk result (text.new ≡ text.old ++ s4 n) }
-{
-    let n = n.cast_unsigned();
-    text.push((n / 16_777_216) as u8)?;
-    text.push((n / 65_536 % 256) as u8)?;
-    text.push((n / 256 % 256) as u8)?;
-    text.push((n % 256) as u8)
-}
-
 // The bytes of the distances from a place to labels.
 #[tactic(auto, unfolding(crate::specs::Code::distances_to))]
 fn distances(
@@ -66,10 +59,10 @@ fn distances(
     labels: &Labels,
     from: u32,
     names: &[Items<u8>],
-) -> Result<Items<u8>, LineFault>
-    ensures { Yields (λ t. t) result (spec.distances_to labels.now from names.now) }
+) -> Result<Vec<u8>, LineFault>
+    ensures { Yields (λ t. t.items) result (spec.distances_to labels.now from names.now) }
 {
-    let mut text = Items::new(alloc);
+    let mut text = Vec::new(alloc);
     let mut rest = names;
     loop {
         let [name, more @ ..] = rest else {
@@ -83,12 +76,12 @@ fn distances(
 
 // Puts a key and the distance from a place to its label.
 fn put_case(
-    text: &mut Items<u8>,
+    text: &mut Vec<u8>,
     labels: &Labels,
     from: u32,
     case: &SwitchCase,
 ) -> Result<(), LineFault>
-    ensures { Does result text.new (spec.with_case labels.now from case.now text.old) }
+    ensures { Does result text.new.items (spec.with_case labels.now from case.now text.old.items) }
 {
     let distance = far_distance(labels, from, case.label.as_slice())?;
     put_s4(text, case.key)?;
@@ -103,10 +96,10 @@ fn pairs(
     labels: &Labels,
     from: u32,
     cases: &[SwitchCase],
-) -> Result<Items<u8>, LineFault>
-    ensures { Yields (λ t. t) result (spec.pairs_to labels.now from cases.now) }
+) -> Result<Vec<u8>, LineFault>
+    ensures { Yields (λ t. t.items) result (spec.pairs_to labels.now from cases.now) }
 {
-    let mut text = Items::new(alloc);
+    let mut text = Vec::new(alloc);
     let mut rest = cases;
     loop {
         let [case, more @ ..] = rest else {
@@ -220,7 +213,7 @@ fn emit_constant(
 ) -> Result<Items<u8>, LineFault>
     ensures { Gives (λ t. t) result pool.new (spec.written place (spec.of_constant op (constant_needed constant.now pool.old))) }
 {
-    let index = pool.constant(alloc, constant)?;
+    let index = constant_index(alloc, constant, pool)?;
     if is_near(op) && index > 255 {
         return Err(LineFault::Outside);
     }
@@ -237,7 +230,7 @@ fn emit_member(
 ) -> Result<Items<u8>, LineFault>
     ensures { Gives (λ t. t) result pool.new (spec.written place (spec.of_index (Member op) (member_needed kind member.now pool.old))) }
 {
-    let index = pool.member(alloc, kind, member)?;
+    let index = member_index(alloc, kind, member, pool)?;
     text_of(alloc, place, &Instr::Member(op, index))
 }
 
@@ -251,7 +244,7 @@ fn emit_interface(
 ) -> Result<Items<u8>, LineFault>
     ensures { Gives (λ t. t) result pool.new (spec.written place (spec.of_index (λ i. Interface op i slots 0) (member_needed InterfaceMethod member.now pool.old))) }
 {
-    let index = pool.member(alloc, MemberKind::InterfaceMethod, member)?;
+    let index = member_index(alloc, MemberKind::InterfaceMethod, member, pool)?;
     text_of(alloc, place, &Instr::Interface(op, index, slots, 0))
 }
 
@@ -264,7 +257,7 @@ fn emit_class(
 ) -> Result<Items<u8>, LineFault>
     ensures { Gives (λ t. t) result pool.new (spec.written place (spec.of_index (ClassOf op) (class_needed name.now pool.old))) }
 {
-    let index = pool.class(alloc, name.as_slice())?;
+    let index = class_index(alloc, name.as_slice(), pool)?;
     text_of(alloc, place, &Instr::ClassOf(op, index))
 }
 
@@ -278,7 +271,7 @@ fn emit_multi_array(
 ) -> Result<Items<u8>, LineFault>
     ensures { Gives (λ t. t) result pool.new (spec.written place (spec.of_index (λ i. MultiArray op i dimensions) (class_needed name.now pool.old))) }
 {
-    let index = pool.class(alloc, name.as_slice())?;
+    let index = class_index(alloc, name.as_slice(), pool)?;
     text_of(alloc, place, &Instr::MultiArray(op, index, dimensions))
 }
 

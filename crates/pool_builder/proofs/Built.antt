@@ -1,22 +1,16 @@
 -- What is needed of a pool that is built so leaves one.
 use Rattle.std.proofs.Common.{◌≡◌, ℕ, zero, suc, ◌+◌, ◌<◌, ◌≤◌, Bool, true, false, cond, List, [], ◌∷◌, ◌++◌, length, length-append, position, slice_get, nat_lt, Option, Some, None, ◌⊎◌, inl, inr, refl, sym, ap, subst, ◌∙◌, arith}
 use Rattle.std.specs.Bool.{IsTrue}
-use Rattle.std.specs.Int.{w32, w64, cast_unsigned}
 use Rattle.std.specs.List.{AllByRecursion}
 use Rattle.std.proofs.lemmas.Bool.{ltb-false}
 use Rattle.std.proofs.lemmas.Option.{slice_get_within}
 use Rattle.jsa_base.specs.Reading.{◌>>=◌}
-use Rattle.jsa_base.proofs.Codecs.{bind_some}
+use Rattle.jsa_base.proofs.Codecs.{bind_some, some_is}
 use Rattle.class_tree.specs.declared.constant_pool.PoolEntry.{PoolEntry}
 use Rattle.class_tree.specs.declared.constant_pool.PoolEntry.TheVariants.{Unusable, Utf8, Integer, Float, Long, Double, Class, Str, Fieldref, Methodref, InterfaceMethodref, NameAndType, MethodHandle, MethodType, InvokeDynamic}
 use Rattle.class_tree.specs.Entries.{entry}
-use Rattle.asm_text.specs.declared.statement.Constant.{Constant}
-use Rattle.asm_text.specs.declared.statement.Constant.TheVariants as constant
-use Rattle.asm_text.specs.declared.statement.MemberKind.{MemberKind}
-use Rattle.asm_text.specs.declared.statement.MemberKind.TheVariants.{Field, Method, InterfaceMethod}
-use Rattle.asm_text.specs.declared.statement.MemberName.{MemberName}
-use Rattle.pool_builder.specs.Laws.{is_usable, StandOnce, parts, PartsStandFirst, IsBuilt, PoolsAreBuilt}
-use Rattle.pool_builder.specs.Needs.{is_same, added, within, held_or, needed, text_needed, class_needed, string_needed, name_and_type_needed, member_entry, member_needed, constant_needed}
+use Rattle.pool_builder.specs.Laws.{is_usable, StandOnce, parts, PartsStandFirst, IsBuilt}
+use Rattle.pool_builder.specs.Needs.{is_same, added, within, held_or, needed, utf8_needed, class_needed, string_needed, name_and_type_needed, parts_needed, field_needed, method_needed, interface_method_needed}
 use Rattle.pool_builder.proofs.Grown.{Held, Put, at_index, parted, within_room, needed_cases}
 
 -- ---- where an entry stands in a pool that grew
@@ -86,10 +80,10 @@ first_by e before first low i z (inr (inr h)) = subst (λ (f : PoolEntry). AllBy
 -- ---- one entry
 
 -- The pool is built so, the index lies in it, and it is no shorter than before.
-record Built (before : List PoolEntry) (index : ℕ) (after : List PoolEntry) : Type 0 where
-  built : IsBuilt after
-  below : index < length after
-  longer : length before ≤ length after
+pub record Built (before : List PoolEntry) (index : ℕ) (after : List PoolEntry) : Type 0 where
+  pub built : IsBuilt after
+  pub below : index < length after
+  pub longer : length before ≤ length after
 
 held_built : (e : PoolEntry) (before : List PoolEntry) (index : ℕ) (after : List PoolEntry) → IsBuilt before → Held e before index after → Built before index after
 held_built e before index after b h =
@@ -126,7 +120,7 @@ one_built : (e : PoolEntry) (before : List PoolEntry) (index : ℕ) (after : Lis
 one_built e before index after b low few (inl h) = held_built e before index after b h
 one_built e before index after b low few (inr p) = put_built e before index after b low few p
 
-needed_built : (e : PoolEntry) (before : List PoolEntry) (index : ℕ) (after : List PoolEntry) → IsBuilt before → AllByRecursion (λ part. part < length before) (parts e) → needed e before ≡ Some (index, after) → Built before index after
+pub needed_built : (e : PoolEntry) (before : List PoolEntry) (index : ℕ) (after : List PoolEntry) → IsBuilt before → AllByRecursion (λ part. part < length before) (parts e) → needed e before ≡ Some (index, after) → Built before index after
 needed_built e before index after b low h = one_built e before index after b low (needed_few e before index after b.few h) (needed_cases e before index after h)
 
 then : (before : List PoolEntry) (i : ℕ) (mid : List PoolEntry) (j : ℕ) (after : List PoolEntry) → Built before i mid → Built mid j after → Built before j after
@@ -138,61 +132,81 @@ short : (long : Bool) (found : Option (ℕ × List PoolEntry)) (x : ℕ × List 
 short true found x h = absurd cc
 short false found x h = h
 
-text_built : (bytes : List ℕ) (before : List PoolEntry) (index : ℕ) (after : List PoolEntry) → IsBuilt before → text_needed bytes before ≡ Some (index, after) → Built before index after
-unfolding text_needed
-text_built bytes before index after b h = needed_built (Utf8 bytes) before index after b tt (short (nat_lt 65535 (length bytes)) (needed (Utf8 bytes) before) (index, after) h)
+pub utf8_built : (bytes : List ℕ) (before : List PoolEntry) (index : ℕ) (after : List PoolEntry) → IsBuilt before → utf8_needed bytes before ≡ Some (index, after) → Built before index after
+unfolding utf8_needed
+utf8_built bytes before index after b h = needed_built (Utf8 bytes) before index after b tt (short (nat_lt 65535 (length bytes)) (needed (Utf8 bytes) before) (index, after) h)
 
-class_built : (name : List ℕ) (before : List PoolEntry) (index : ℕ) (after : List PoolEntry) → IsBuilt before → class_needed name before ≡ Some (index, after) → Built before index after
+pub class_built : (name : List ℕ) (before : List PoolEntry) (index : ℕ) (after : List PoolEntry) → IsBuilt before → class_needed name before ≡ Some (index, after) → Built before index after
 unfolding class_needed
 class_built name before index after b h =
-    let s = bind_some (text_needed name before) (λ text. needed (Class text.0) text.1) (index, after) h in
-    let t = text_built name before s.0.0 s.0.1 b s.1 in
+    let s = bind_some (utf8_needed name before) (λ text. needed (Class text.0) text.1) (index, after) h in
+    let t = utf8_built name before s.0.0 s.0.1 b s.1 in
     then before s.0.0 s.0.1 index after t (needed_built (Class s.0.0) s.0.1 index after t.built (t.below, tt) s.2)
 
-string_built : (string : List ℕ) (before : List PoolEntry) (index : ℕ) (after : List PoolEntry) → IsBuilt before → string_needed string before ≡ Some (index, after) → Built before index after
+pub string_built : (string : List ℕ) (before : List PoolEntry) (index : ℕ) (after : List PoolEntry) → IsBuilt before → string_needed string before ≡ Some (index, after) → Built before index after
 unfolding string_needed
 string_built string before index after b h =
-    let s = bind_some (text_needed string before) (λ text. needed (Str text.0) text.1) (index, after) h in
-    let t = text_built string before s.0.0 s.0.1 b s.1 in
+    let s = bind_some (utf8_needed string before) (λ text. needed (Str text.0) text.1) (index, after) h in
+    let t = utf8_built string before s.0.0 s.0.1 b s.1 in
     then before s.0.0 s.0.1 index after t (needed_built (Str s.0.0) s.0.1 index after t.built (t.below, tt) s.2)
 
-name_and_type_built : (name desc : List ℕ) (before : List PoolEntry) (index : ℕ) (after : List PoolEntry) → IsBuilt before → name_and_type_needed name desc before ≡ Some (index, after) → Built before index after
+pub name_and_type_built : (name desc : List ℕ) (before : List PoolEntry) (index : ℕ) (after : List PoolEntry) → IsBuilt before → name_and_type_needed name desc before ≡ Some (index, after) → Built before index after
 unfolding name_and_type_needed
 name_and_type_built name desc before index after b h =
-    let s = bind_some (text_needed name before) (λ n. text_needed desc n.1 >>= λ d. needed (NameAndType n.0 d.0) d.1) (index, after) h in
-    let n = text_built name before s.0.0 s.0.1 b s.1 in
-    let u = bind_some (text_needed desc s.0.1) (λ d. needed (NameAndType s.0.0 d.0) d.1) (index, after) s.2 in
-    let d = text_built desc s.0.1 u.0.0 u.0.1 n.built u.1 in
+    let s = bind_some (utf8_needed name before) (λ n. utf8_needed desc n.1 >>= λ d. needed (NameAndType n.0 d.0) d.1) (index, after) h in
+    let n = utf8_built name before s.0.0 s.0.1 b s.1 in
+    let u = bind_some (utf8_needed desc s.0.1) (λ d. needed (NameAndType s.0.0 d.0) d.1) (index, after) s.2 in
+    let d = utf8_built desc s.0.1 u.0.0 u.0.1 n.built u.1 in
     let low : s.0.0 < length u.0.1 = omega (arith, n.below, d.longer) in
     let both = then before s.0.0 s.0.1 u.0.0 u.0.1 n d in
     then before u.0.0 u.0.1 index after both (needed_built (NameAndType s.0.0 u.0.0) u.0.1 index after d.built (low, (d.below, tt)) u.2)
 
-member_parts : (kind : MemberKind) (class member : ℕ) → parts (member_entry kind class member) ≡ class ∷ member ∷ []
-member_parts Field class member = refl
-member_parts Method class member = refl
-member_parts InterfaceMethod class member = refl
+-- The parts of a member lie in the pool.
+pub record Parted (before : List PoolEntry) (found : ℕ × ℕ) (after : List PoolEntry) : Type 0 where
+  pub built : IsBuilt after
+  pub class_below : found.0 < length after
+  pub member_below : found.1 < length after
+  pub longer : length before ≤ length after
 
-member_built : (kind : MemberKind) (m : MemberName) (before : List PoolEntry) (index : ℕ) (after : List PoolEntry) → IsBuilt before → member_needed kind m before ≡ Some (index, after) → Built before index after
-unfolding member_needed
-member_built kind m before index after b h =
-    let s = bind_some (class_needed m.class before) (λ class. name_and_type_needed m.name m.desc class.1 >>= λ member. needed (member_entry kind class.0 member.0) member.1) (index, after) h in
-    let c = class_built m.class before s.0.0 s.0.1 b s.1 in
-    let u = bind_some (name_and_type_needed m.name m.desc s.0.1) (λ member. needed (member_entry kind s.0.0 member.0) member.1) (index, after) s.2 in
-    let n = name_and_type_built m.name m.desc s.0.1 u.0.0 u.0.1 c.built u.1 in
-    let low : s.0.0 < length u.0.1 = omega (arith, c.below, n.longer) in
-    let lows : AllByRecursion (λ part. part < length u.0.1) (s.0.0 ∷ u.0.0 ∷ []) = (low, (n.below, tt)) in
-    let both = then before s.0.0 s.0.1 u.0.0 u.0.1 c n in
-    then before u.0.0 u.0.1 index after both
-    (needed_built (member_entry kind s.0.0 u.0.0) u.0.1 index after n.built (subst (AllByRecursion (λ part. part < length u.0.1)) (sym (member_parts kind s.0.0 u.0.0)) lows) u.2)
+abbrev one : ℕ → ℕ → List PoolEntry → (ℕ × ℕ) × List PoolEntry
+one class member pool = ((class, member), pool)
 
-constant_built : (k : Constant) (before : List PoolEntry) (index : ℕ) (after : List PoolEntry) → IsBuilt before → constant_needed k before ≡ Some (index, after) → Built before index after
-unfolding constant_needed
-constant_built (constant.Integer n) before index after b h = needed_built (Integer (cast_unsigned w32 n)) before index after b tt h
-constant_built (constant.Long n) before index after b h = needed_built (Long (cast_unsigned w64 n)) before index after b tt h
-constant_built (constant.Text string) before index after b h = string_built string before index after b h
-constant_built (constant.Class name) before index after b h = class_built name before index after b h
+parts_built : (class name desc : List ℕ) (before : List PoolEntry) (found : ℕ × ℕ) (after : List PoolEntry) → IsBuilt before → parts_needed class name desc before ≡ Some (found, after) → Parted before found after
+unfolding parts_needed
+parts_built class name desc before found after b h =
+    let s = bind_some (class_needed class before) (λ c. name_and_type_needed name desc c.1 >>= λ n. Some (one c.0 n.0 n.1)) (found, after) h in
+    let c = class_built class before s.0.0 s.0.1 b s.1 in
+    let u = bind_some (name_and_type_needed name desc s.0.1) (λ n. Some (one s.0.0 n.0 n.1)) (found, after) s.2 in
+    let n = name_and_type_built name desc s.0.1 u.0.0 u.0.1 c.built u.1 in
+    subst (λ (x : (ℕ × ℕ) × List PoolEntry). Parted before x.0 x.1) (some_is (one s.0.0 u.0.0 u.0.1) (found, after) u.2)
+    (record { built = n.built; class_below = omega (arith, c.below, n.longer); member_below = n.below; longer = omega (arith, c.longer, n.longer) })
 
--- ---- the law
+-- a member of these parts
+abbrev TwoParts : (ℕ → ℕ → PoolEntry) → Type 0
+TwoParts make = (class member : ℕ) → parts (make class member) ≡ class ∷ member ∷ []
+
+member_built : (make : ℕ → ℕ → PoolEntry) → TwoParts make → (class name desc : List ℕ) (before : List PoolEntry) (index : ℕ) (after : List PoolEntry) → IsBuilt before
+    → (parts_needed class name desc before >>= λ p. needed (make p.0.0 p.0.1) p.1) ≡ Some (index, after) → Built before index after
+member_built make two class name desc before index after b h =
+    let s = bind_some (parts_needed class name desc before) (λ p. needed (make p.0.0 p.0.1) p.1) (index, after) h in
+    let p = parts_built class name desc before s.0.0 s.0.1 b s.1 in
+    let low : AllByRecursion (λ part. part < length s.0.1) (s.0.0.0 ∷ s.0.0.1 ∷ []) = (p.class_below, (p.member_below, tt)) in
+    let last = needed_built (make s.0.0.0 s.0.0.1) s.0.1 index after p.built (subst (AllByRecursion (λ part. part < length s.0.1)) (sym (two s.0.0.0 s.0.0.1)) low) s.2 in
+    record { built = last.built; below = last.below; longer = omega (arith, p.longer, last.longer) }
+
+pub field_built : (class name desc : List ℕ) (before : List PoolEntry) (index : ℕ) (after : List PoolEntry) → IsBuilt before → field_needed class name desc before ≡ Some (index, after) → Built before index after
+unfolding field_needed
+field_built class name desc = member_built Fieldref (λ c m. refl) class name desc
+
+pub method_built : (class name desc : List ℕ) (before : List PoolEntry) (index : ℕ) (after : List PoolEntry) → IsBuilt before → method_needed class name desc before ≡ Some (index, after) → Built before index after
+unfolding method_needed
+method_built class name desc = member_built Methodref (λ c m. refl) class name desc
+
+pub interface_method_built : (class name desc : List ℕ) (before : List PoolEntry) (index : ℕ) (after : List PoolEntry) → IsBuilt before → interface_method_needed class name desc before ≡ Some (index, after) → Built before index after
+unfolding interface_method_needed
+interface_method_built class name desc = member_built InterfaceMethodref (λ c m. refl) class name desc
+
+-- ---- the pool that a builder begins with
 
 start_once : StandOnce (Unusable ∷ [])
 start_once zero j e f h k usable alike = let same : e ≡ Unusable = cc in absurd (is_written e usable (ap entry same))
@@ -202,11 +216,5 @@ start_first : PartsStandFirst (Unusable ∷ [])
 start_first zero e h = let same : e ≡ Unusable = cc in subst (λ (f : PoolEntry). AllByRecursion (λ part. part < 0) (parts f)) (sym same) tt
 start_first (suc i) e h = absurd cc
 
-pub pools_are_built : PoolsAreBuilt
-pools_are_built = record {
-  start = record { once = start_once; first = start_first; few = omega arith };
-  text = λ bytes before after index b h. (text_built bytes before index after b h).built;
-  class = λ name before after index b h. (class_built name before index after b h).built;
-  constant = λ k before after index b h. (constant_built k before index after b h).built;
-  member = λ kind m before after index b h. (member_built kind m before index after b h).built;
-}
+pub start_is_built : IsBuilt (Unusable ∷ [])
+start_is_built = record { once = start_once; first = start_first; few = omega arith }

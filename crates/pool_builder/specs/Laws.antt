@@ -1,13 +1,10 @@
 -- What the definitions are worth.
-use Rattle.std.specs.Prelude.{◌≡◌, ℕ, ◌<◌, List, [], ◌∷◌, ◌++◌, Bool, true, false, slice_get, Option, Some, IsTrue, length}
+use Rattle.std.specs.Prelude.{◌≡◌, ℕ, ℤ, ◌<◌, List, [], ◌∷◌, ◌++◌, Bool, true, false, slice_get, Some, IsTrue, length}
 use Rattle.std.specs.List.{AllByRecursion}
 use Rattle.class_tree.specs.declared.constant_pool.PoolEntry.{PoolEntry}
 use Rattle.class_tree.specs.declared.constant_pool.PoolEntry.TheVariants as entries
 use Rattle.class_tree.specs.Entries.{entry}
-use Rattle.asm_text.specs.declared.statement.Constant.{Constant}
-use Rattle.asm_text.specs.declared.statement.MemberKind.{MemberKind}
-use Rattle.asm_text.specs.declared.statement.MemberName.{MemberName}
-use Rattle.pool_builder.specs.Needs.{needed, text_needed, class_needed, member_needed, constant_needed}
+use Rattle.pool_builder.specs.Needs.{Need, needed, utf8_needed, integer_needed, float_needed, long_needed, double_needed, class_needed, string_needed, name_and_type_needed, field_needed, method_needed, interface_method_needed}
 
 -- ---- what a pool is that was built so
 
@@ -42,6 +39,18 @@ pub record IsBuilt (pool : List PoolEntry) : Type 0 where
   pub first : PartsStandFirst pool
   pub few : length pool < 65536
 
+-- ---- what a pool keeps
+
+-- A pool grows at its end alone, so that each index stays that of its entry.
+pub record Grown (before after : List PoolEntry) : Type 0 where
+  pub more : List PoolEntry
+  pub is : after ≡ before ++ more
+
+-- It grew, and is built so if it was.
+pub record Keeps (before after : List PoolEntry) : Type 0 where
+  pub built : IsBuilt before → IsBuilt after
+  pub grown : Grown before after
+
 -- ---- laws
 
 -- an entry that is written so stands at the index
@@ -57,14 +66,21 @@ pub record Grows (e : PoolEntry) (before : List PoolEntry) (index : ℕ) (after 
 abbrev pub NeededGrows : Type 0
 NeededGrows = (e : PoolEntry) (before after : List PoolEntry) (index : ℕ) → needed e before ≡ Some (index, after) → Grows e before index after
 
--- what leaves a pool that is built so
-abbrev pub Builds : (List PoolEntry → Option (ℕ × List PoolEntry)) → Type 0
-Builds need = (before after : List PoolEntry) (index : ℕ) → IsBuilt before → need before ≡ Some (index, after) → IsBuilt after
+-- What is needed leaves a pool that keeps.
+abbrev pub Builds : Need → Type 0
+Builds need = (before after : List PoolEntry) (index : ℕ) → need before ≡ Some (index, after) → Keeps before after
 
 -- A pool that holds index 0 alone is built so, and whatever is needed leaves one that is.
 pub record PoolsAreBuilt : Type 0 where
   pub start : IsBuilt (entries.Unusable ∷ [])
-  pub text : (bytes : List ℕ) → Builds (text_needed bytes)
+  pub utf8 : (bytes : List ℕ) → Builds (utf8_needed bytes)
+  pub integer : (n : ℤ) → Builds (integer_needed n)
+  pub float : (bits : ℕ) → Builds (float_needed bits)
+  pub long : (n : ℤ) → Builds (long_needed n)
+  pub double : (bits : ℕ) → Builds (double_needed bits)
   pub class : (name : List ℕ) → Builds (class_needed name)
-  pub constant : (k : Constant) → Builds (constant_needed k)
-  pub member : (kind : MemberKind) (m : MemberName) → Builds (member_needed kind m)
+  pub string : (string : List ℕ) → Builds (string_needed string)
+  pub name_and_type : (name desc : List ℕ) → Builds (name_and_type_needed name desc)
+  pub field : (class name desc : List ℕ) → Builds (field_needed class name desc)
+  pub method : (class name desc : List ℕ) → Builds (method_needed class name desc)
+  pub interface_method : (class name desc : List ℕ) → Builds (interface_method_needed class name desc)

@@ -1,3 +1,4 @@
 pub mod Known
 pub mod Laws
 pub mod Needs
+pub mod Outcome

@@ -2,7 +2,9 @@
 #![tactic(auto)]
 
 mod builder;
+mod fault;
 mod laws;
 
 pub use builder::PoolBuilder;
+pub use fault::PoolFault;
 pub use laws::{pools_are_built, pools_grow};

@@ -1,6 +1,5 @@
-use asm_text::{Constant, LineFault, MemberKind, MemberName};
 use class_tree::PoolEntry;
-use pool_builder::{PoolBuilder, pools_are_built, pools_grow};
+use pool_builder::{PoolBuilder, PoolFault, pools_are_built, pools_grow};
 use sqlite_items::Items;
 use std::alloc::{AllocError, Global};
 
@@ -15,11 +14,17 @@ integer -2 = 16
 integer -2 = 16
 long -1 = 17
 string A = 19
-class_constant A = 2
-class_constant [I = 21
-text A = 1
+class A = 2
+class [I = 21
+utf8 A = 1
 long 4294967294 = 22
 integer 5 = 24
+float 4294967294 = 25
+double 18446744073709551615 = 26
+float 4294967294 = 25
+double 18446744073709551615 = 26
+name_and_type m ()V = 13
+name_and_type f m = 28
 ";
 
 // The entries that this makes, by their tags, each with its text, its number or its indices. An unusable one has tag 0.
@@ -48,14 +53,23 @@ static ENTRIES: &str = "0 0 0
 5 4294967294 0
 0 0 0
 3 5 0
+4 4294967294 0
+6 18446744073709551615 0
+0 0 0
+12 5 11
 ";
 
 // What is needed of a pool with one index left: a text is put in, though the class that it is for has no room.
 static LAST_NEEDS: &str = "long 7 = no
+double 7 = no
 class K = no
-text K = 65534
+utf8 K = 65534
 integer 7 = no
-text aa = 24930
+float 7 = no
+string K = no
+name_and_type K K = no
+field K K K = no
+utf8 aa = 24930
 ";
 
 // What is needed of a new pool, for texts of so many bytes.
@@ -65,37 +79,51 @@ bytes 65536 = no
 
 // ---- what is needed
 
-fn items(alloc: Global, text: &str) -> Items<u8> {
-    match Items::from_slice(alloc, text.as_bytes()) {
-        Ok(items) => items,
-        Err(_) => Items::new(alloc),
-    }
+// The first word, and what stands behind its blank.
+fn first_word(words: &str) -> (&str, &str) {
+    words.split_once(' ').unwrap_or((words, ""))
 }
 
-fn constant_of(alloc: Global, kind: &str, text: &str) -> Constant {
+// The index of a member: its class, its name and its descriptor.
+fn member(
+    alloc: Global,
+    pool: &mut PoolBuilder,
+    kind: &str,
+    words: &str,
+) -> Result<u16, PoolFault> {
+    let (class, rest) = first_word(words);
+    let (name, desc) = first_word(rest);
+    let class = class.as_bytes();
+    let name = name.as_bytes();
+    let desc = desc.as_bytes();
     match kind {
-        "integer" => Constant::Integer(text.parse::<i32>().unwrap_or(0)),
-        "long" => Constant::Long(text.parse::<i64>().unwrap_or(0)),
-        "string" => Constant::Text(items(alloc, text)),
-        _ => Constant::Class(items(alloc, text)),
+        "field" => pool.field(alloc, class, name, desc),
+        "method" => pool.method(alloc, class, name, desc),
+        _ => pool.interface_method(alloc, class, name, desc),
     }
 }
 
-fn kind_of(kind: &str) -> MemberKind {
+// The index of a number.
+fn number(alloc: Global, pool: &mut PoolBuilder, kind: &str, text: &str) -> Result<u16, PoolFault> {
     match kind {
-        "field" => MemberKind::Field,
-        "method" => MemberKind::Method,
-        _ => MemberKind::InterfaceMethod,
+        "integer" => pool.integer(alloc, text.parse::<i32>().unwrap_or(0)),
+        "float" => pool.float(alloc, text.parse::<u32>().unwrap_or(0)),
+        "long" => pool.long(alloc, text.parse::<i64>().unwrap_or(0)),
+        _ => pool.double(alloc, text.parse::<u64>().unwrap_or(0)),
     }
 }
 
-fn member_name(alloc: Global, words: &str) -> MemberName {
-    let (class, rest) = words.split_once(' ').unwrap_or((words, ""));
-    let (name, desc) = rest.split_once(' ').unwrap_or((rest, ""));
-    MemberName {
-        class: items(alloc, class),
-        name: items(alloc, name),
-        desc: items(alloc, desc),
+// The index of what is made of one text or two.
+fn named(alloc: Global, pool: &mut PoolBuilder, kind: &str, text: &str) -> Result<u16, PoolFault> {
+    match kind {
+        "utf8" => pool.utf8(alloc, text.as_bytes()),
+        "bytes" => pool.utf8(alloc, long_text(alloc, text).as_slice()),
+        "class" => pool.class(alloc, text.as_bytes()),
+        "string" => pool.string(alloc, text.as_bytes()),
+        _ => {
+            let (name, desc) = first_word(text);
+            pool.name_and_type(alloc, name.as_bytes(), desc.as_bytes())
+        }
     }
 }
 
@@ -108,16 +136,12 @@ fn long_text(alloc: Global, count: &str) -> Items<u8> {
     text
 }
 
-fn need(alloc: Global, pool: &mut PoolBuilder, call: &str) -> Result<u16, LineFault> {
-    let (word, rest) = call.split_once(' ').unwrap_or((call, ""));
+fn need(alloc: Global, pool: &mut PoolBuilder, call: &str) -> Result<u16, PoolFault> {
+    let (word, rest) = first_word(call);
     match word {
-        "text" => pool.text(alloc, rest.as_bytes()),
-        "bytes" => pool.text(alloc, long_text(alloc, rest).as_slice()),
-        "class" => pool.class(alloc, rest.as_bytes()),
-        "field" | "method" | "interface" => {
-            pool.member(alloc, kind_of(word), &member_name(alloc, rest))
-        }
-        _ => pool.constant(alloc, &constant_of(alloc, word, rest)),
+        "field" | "method" | "interface" => member(alloc, pool, word, rest),
+        "integer" | "float" | "long" | "double" => number(alloc, pool, word, rest),
+        _ => named(alloc, pool, word, rest),
     }
 }
 
@@ -137,8 +161,8 @@ fn say_index(alloc: Global, said: &mut String, index: u16) {
 fn say_need(alloc: Global, said: &mut String, pool: &mut PoolBuilder, call: &str) {
     match need(alloc, pool, call) {
         Ok(index) => say_index(alloc, said, index),
-        Err(LineFault::Outside) => put(said, "no"),
-        Err(LineFault::Memory) => put(said, "memory"),
+        Err(PoolFault::NoRoom) => put(said, "no"),
+        Err(PoolFault::Memory) => put(said, "memory"),
     }
 }
 
@@ -146,7 +170,9 @@ fn say_need(alloc: Global, said: &mut String, pool: &mut PoolBuilder, call: &str
 fn numbers_of(entry: &PoolEntry) -> (u8, u64, u16) {
     match entry {
         PoolEntry::Integer(bits) => (3, u64::from(*bits), 0),
+        PoolEntry::Float(bits) => (4, u64::from(*bits), 0),
         PoolEntry::Long(bits) => (5, *bits, 0),
+        PoolEntry::Double(bits) => (6, *bits, 0),
         PoolEntry::Class(name) => (7, u64::from(*name), 0),
         PoolEntry::Str(string) => (8, u64::from(*string), 0),
         PoolEntry::Fieldref(class, member) => (9, u64::from(*class), *member),
@@ -272,24 +298,24 @@ fn wrong_rows(
 }
 
 #[test]
-fn parts_stand_first_and_equal_entries_are_shared(rt: HostRuntime) -> Result<(), LineFault> {
+fn parts_stand_first_and_equal_entries_are_shared(rt: HostRuntime) -> Result<(), PoolFault> {
     let pool = PoolBuilder::new(rt.alloc())?;
-    let wrong = wrong_rows(rt.alloc(), pool, NEEDS, ENTRIES, 25)?;
+    let wrong = wrong_rows(rt.alloc(), pool, NEEDS, ENTRIES, 29)?;
     assert_eq!(rt; wrong.as_str(), "");
     Ok(())
 }
 
 // A pool with one index left. Its texts are the numbers from 0 on in two bytes, so that `aa`, 0x6161, has index 0x6162.
-fn full_but_one(alloc: Global) -> Result<PoolBuilder, LineFault> {
+fn full_but_one(alloc: Global) -> Result<PoolBuilder, PoolFault> {
     let mut pool = PoolBuilder::new(alloc)?;
     for n in 0..65_533_u16 {
-        pool.text(alloc, &n.to_be_bytes())?;
+        pool.utf8(alloc, &n.to_be_bytes())?;
     }
     Ok(pool)
 }
 
 #[test]
-fn a_pool_has_at_most_65535_indices(rt: HostRuntime) -> Result<(), LineFault> {
+fn a_pool_has_at_most_65535_indices(rt: HostRuntime) -> Result<(), PoolFault> {
     let pool = full_but_one(rt.alloc())?;
     let wrong = wrong_rows(rt.alloc(), pool, LAST_NEEDS, "", 65_535)?;
     assert_eq!(rt; wrong.as_str(), "");
@@ -297,7 +323,7 @@ fn a_pool_has_at_most_65535_indices(rt: HostRuntime) -> Result<(), LineFault> {
 }
 
 #[test]
-fn a_text_has_at_most_65535_bytes(rt: HostRuntime) -> Result<(), LineFault> {
+fn a_text_has_at_most_65535_bytes(rt: HostRuntime) -> Result<(), PoolFault> {
     let pool = PoolBuilder::new(rt.alloc())?;
     let wrong = wrong_rows(rt.alloc(), pool, LONG_NEEDS, "", 2)?;
     assert_eq!(rt; wrong.as_str(), "");

@@ -159,8 +159,9 @@ none tableswitch 0 D
 none tableswitch 0 D "A"
 lookup lookupswitch D
 lookup lookupswitch D -5 A 0 B 7 A
-none lookupswitch D 0 A 0 B
-none lookupswitch D 1 A 0 B
+lookup lookupswitch D 0 A 0 B
+lookup lookupswitch D 1 A 0 B
+lookup lookupswitch D 2147483647 A -2147483648 B 0 A
 none lookupswitch D 0 A 1
 none lookupswitch
 "#;

@@ -8,11 +8,11 @@ test_false : (b : Bool) → (b ≡ true → ⊥) → b ≡ false
 test_false true h = absurd (h refl)
 test_false false h = refl
 
-pub returns-in_ok-chars_bytes-in-Ok : goal.returns-in_ok-chars_bytes-in-Ok
+pub returns-in_ok-modified-in-Ok : goal.returns-in_ok-modified-in-Ok
 unfolding modified
-returns-in_ok-chars_bytes-in-Ok c =
+returns-in_ok-modified-in-Ok c =
     let u = is_utf8-from_IsUtf8 c.args.line.now c.in-Ok.ensures.cases.1 in
-    rw (u, c.in_ok-chars_bytes-in-Ok.ensures, c.in-Ok.ensures.cases.0) refl
+    rw (u, c.in_ok-modified-in-Ok.ensures.bytes, c.in-Ok.ensures.cases.0) refl
 
 pub returns-in-Err : goal.returns-in-Err
 unfolding modified

@@ -1,4 +1,4 @@
-use Rattle.std.proofs.Common.{◌≡◌, ◌+◌, [], length}
+use Rattle.std.proofs.Common.{◌≡◌, length}
 use Rattle.class_asm.specs.Drafts.{classes_needed}
 use Rattle.class_asm.proofs.Fronts.{front}
 use Rattle.class_asm.proofs.class_draft.classes.Given as goal

@@ -1,4 +1,4 @@
-use Rattle.std.proofs.Common.{◌≡◌, ◌+◌, [], length}
+use Rattle.std.proofs.Common.{◌≡◌, length}
 use Rattle.class_asm.specs.Frames.{types_text}
 use Rattle.class_asm.proofs.Fronts.{front}
 use Rattle.class_asm.proofs.frames.types_text.Given as goal

@@ -1,4 +1,3 @@
-use Rattle.std.proofs.Common.{List}
 use Rattle.std.specs.Option.{option_map}
 use Rattle.jsa_ops.specs.Instruction.{Branch}
 use Rattle.class_asm.specs.Code.{resolved, distance_to, reach}

@@ -1,10 +1,10 @@
-use Rattle.std.proofs.Common.{◌≡◌, ◌+◌, [], length}
+use Rattle.std.proofs.Common.{◌≡◌, length}
 use Rattle.class_asm.specs.Code.{pairs_to}
 use Rattle.class_asm.proofs.Fronts.{front_text}
 use Rattle.class_asm.proofs.resolving.pairs.Given as goal
 
 abbrev pub invariant-loop-rest : goal.invariant-loop-rest
-invariant-loop-rest l = front_text l.text (pairs_to l.labels l.from l.rest) ≡ pairs_to l.labels l.from l.fn.cases
+invariant-loop-rest l = front_text l.text.items (pairs_to l.labels l.from l.rest) ≡ pairs_to l.labels l.from l.fn.cases
 
 abbrev pub decreases-loop-rest : goal.decreases-loop-rest
 decreases-loop-rest l = length l.rest

@@ -1,5 +1,5 @@
-use Rattle.std.proofs.Common.{◌∙◌, ap, List, position}
-use Rattle.class_asm.specs.Labels.{Label, is_named}
+use Rattle.std.proofs.Common.{◌∙◌, ap, position}
+use Rattle.class_asm.specs.Labels.{is_named}
 use Rattle.class_asm.proofs.MapLabels.{position_in}
 use Rattle.class_asm.proofs.labels.Labels.position.Goals as goal
 
