@@ -9,7 +9,7 @@ use Rattle.class_asm.specs.Assembly.{assembled}
 use Rattle.boot_library.specs.declared.text.TheConstants.{BOOT_TEXT}
 use Rattle.boot_library.specs.declared.fault.HomeFault.{HomeFault}
 use Rattle.boot_library.specs.declared.fault.HomeFault.TheVariants.{Line, Files, Memory}
-use Rattle.boot_library.specs.ClassFiles.{File, files_of, after_files, WritesSome, FailsAt}
+use Rattle.class_folder.specs.ClassFiles.{File, files_of, HaveFiles, after_files, WritesSome, FailsAt}
 
 -- the text of the boot library, in the language of the assembler
 unfoldable pub boot_text : List ℕ
@@ -26,15 +26,15 @@ abbrev pub line_of_tree : ClassTree → List ℕ
 line_of_tree tree = name_line (class_name tree.pool tree.this)
 
 -- the list of the names of classes, a line each
-abbrev pub class_list : List ClassTree → List ℕ
-class_list [] = []
-class_list (tree ∷ trees) = line_of_tree tree ++ class_list trees
+abbrev pub names_text : List ClassTree → List ℕ
+names_text [] = []
+names_text (tree ∷ trees) = line_of_tree tree ++ names_text trees
 
 abbrev pub boot_folder : List ℕ → List ℕ
 boot_folder dir = dir ++ codes "/boot"
 
 abbrev pub list_file : List ℕ → List ClassTree → File
-list_file dir trees = record { path = dir ++ codes "/classlist"; bytes = class_list trees }
+list_file dir trees = record { path = dir ++ codes "/classlist"; bytes = names_text trees }
 
 -- the file of each class below DIR/boot, in the order of the classes, and then the list
 abbrev pub home_files : List ℕ → List ClassTree → List File
@@ -42,21 +42,20 @@ home_files dir trees = files_of (boot_folder dir) trees ++ list_file dir trees �
 
 -- ---- the answer
 
--- The text stands for these classes, and each of them has a file.
+-- The text stands for these classes.
 pub record IsHome (dir text : List ℕ) : Type 0 where
   pub trees : List ClassTree
   pub is : assembled text ≡ Ok trees
-  pub each : length (files_of (boot_folder dir) trees) ≡ length trees
 
 -- the files that are to be written
 abbrev pub files_asked : {dir text : List ℕ} → IsHome dir text → List File
 files_asked {dir = dir} home = home_files dir home.trees
 
 -- The answer of the making of a home, and what a store holds then, if it tells. The count of its writes that failed is given
--- before and now. After Ok the store holds each file of the home, and at every other path what it held. Line comes exactly
+-- before and now. After Ok the store holds the file of each class and the list, and at every other path what it held. Line comes exactly
 -- where the text is outside the grammar, first on that line, unless memory ran out.
 abbrev pub HomeAnswers : {T : Type 0} → Option Contents → Option Contents → ℕ × ℕ → List ℕ → List ℕ → Result T HomeFault → Type 0
-HomeAnswers old new faults dir text (Ok x) = (home : IsHome dir text) × (new ≡ after_files old (files_asked home))
+HomeAnswers old new faults dir text (Ok x) = (home : IsHome dir text) × HaveFiles (boot_folder dir) home.trees × (new ≡ after_files old (files_asked home))
 HomeAnswers old new faults dir text (Err (Line number)) = (assembled text ≡ Err number) × (new ≡ old)
 HomeAnswers old new faults dir text (Err (Files files.Failed)) = (home : IsHome dir text) × FailsAt old new (files_asked home) × Rose faults.0 faults.1
 HomeAnswers old new faults dir text (Err (Files files.Memory)) = (home : IsHome dir text) × WritesSome old new (files_asked home)
@@ -73,18 +72,3 @@ CountsWrites before now (Err (Files files.Memory)) = now ≡ before
 CountsWrites before now (Err (Files (files.TooLarge size))) = now ≡ before
 CountsWrites before now (Err (Files (files.TooMany count))) = now ≡ before
 CountsWrites before now (Err Memory) = now ≡ before
-
--- ---- what the steps leave to one another; no public contract cites these
-
-abbrev pub file_at : List ℕ → List ℕ → File
-file_at path bytes = record { path = path; bytes = bytes }
-
--- Files were written, one after the other; or the first of them, and why not all.
-abbrev pub WritesFiles : {T : Type 0} → Option Contents → Option Contents → ℕ × ℕ → List File → Result T HomeFault → Type 0
-WritesFiles old new faults asked (Ok x) = new ≡ after_files old asked
-WritesFiles old new faults asked (Err (Line number)) = ⊥
-WritesFiles old new faults asked (Err (Files files.Failed)) = FailsAt old new asked × Rose faults.0 faults.1
-WritesFiles old new faults asked (Err (Files files.Memory)) = WritesSome old new asked
-WritesFiles old new faults asked (Err (Files (files.TooLarge size))) = ⊥
-WritesFiles old new faults asked (Err (Files (files.TooMany count))) = ⊥
-WritesFiles old new faults asked (Err Memory) = WritesSome old new asked

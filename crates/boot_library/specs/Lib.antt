@@ -1,2 +1,1 @@
-pub mod ClassFiles
 pub mod Home

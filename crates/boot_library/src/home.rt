@@ -3,14 +3,15 @@ ghost use Rattle.std.specs.Prelude.{◌≡◌, [], ◌∷◌, ◌++◌, ◌<◌,
 ghost use Rattle.std.specs.String.{string_bytes};
 ghost use Rattle.jsa_files.specs.declared.fault.FilesFault.TheVariants as files_fault;
 ghost use Rattle.boot_library.specs.declared.fault.HomeFault.TheVariants as home;
-ghost use Rattle.boot_library.specs.ClassFiles.{files_of, contents_told, reads_told};
+ghost use Rattle.jsa_files.specs.Told.{contents_told, reads_told};
+ghost use Rattle.class_folder.specs.ClassFiles.{files_of, file_at, WritesFiles, CountsWrites};
 ghost use Rattle.boot_library.specs.Home as spec;
 
-use crate::class_files::{write_classes, write_file};
 use crate::fault::HomeFault;
 use class_asm::{AsmFault, assemble};
+use class_folder::{write_classes, write_file};
 use class_tree::ClassTree;
-use jsa_files::Files;
+use jsa_files::{Files, FilesFault};
 use std::alloc::{AllocError, Global};
 
 // Adds the line of a class to the list.
@@ -26,8 +27,8 @@ fn push_name(list: &mut Vec<u8>, tree: &ClassTree) -> Result<(), AllocError>
 }
 
 // The list of the names of classes.
-fn class_list(alloc: Global, trees: &[ClassTree]) -> Result<Vec<u8>, AllocError>
-    ensures { IfOk result (λ list. list.items ≡ spec.class_list trees.now) }
+fn names_text(alloc: Global, trees: &[ClassTree]) -> Result<Vec<u8>, AllocError>
+    ensures { IfOk result (λ list. list.items ≡ spec.names_text trees.now) }
 {
     let mut list = Vec::new(alloc);
     let mut rest = trees;
@@ -57,12 +58,12 @@ fn write_all<F: Files>(
     path: &str,
     list: &[u8],
     files: &mut F,
-) -> Result<(), HomeFault>
-    ensures writes { spec.WritesFiles (contents_told (F.store files.old)) (contents_told (F.store files.new)) (F.write_faults files.old, F.write_faults files.new) (files_of folder.now trees.now ++ spec.file_at path.now list.now ∷ []) result }
-    ensures write_fault { spec.CountsWrites (F.write_faults files.old) (F.write_faults files.new) result }
+) -> Result<(), FilesFault>
+    ensures writes { WritesFiles (contents_told (F.store files.old)) (contents_told (F.store files.new)) (F.write_faults files.old, F.write_faults files.new) (files_of folder.now trees.now ++ file_at path.now list.now ∷ []) result }
+    ensures write_fault { CountsWrites (F.write_faults files.old) (F.write_faults files.new) result }
     ensures reads { reads_told (F.store files.new) ≡ reads_told (F.store files.old) }
     ensures read_faults { F.read_faults files.new ≡ F.read_faults files.old }
-    ensures write_can_fail { IsErrOf result (home.Files files_fault.Failed) → F.can_fail files.old }
+    ensures write_can_fail { IsErrOf result files_fault.Failed → F.can_fail files.old }
     ensures files_stay { F.can_fail files.new → F.can_fail files.old }
 {
     match write_classes(alloc, folder, trees, files) {
@@ -77,17 +78,23 @@ fn write_trees<F: Files>(
     dir: &str,
     trees: &[ClassTree],
     files: &mut F,
-) -> Result<(), HomeFault>
-    ensures writes { spec.WritesFiles (contents_told (F.store files.old)) (contents_told (F.store files.new)) (F.write_faults files.old, F.write_faults files.new) (spec.home_files dir.now trees.now) result }
-    ensures write_fault { spec.CountsWrites (F.write_faults files.old) (F.write_faults files.new) result }
+) -> Result<(), FilesFault>
+    ensures writes { WritesFiles (contents_told (F.store files.old)) (contents_told (F.store files.new)) (F.write_faults files.old, F.write_faults files.new) (spec.home_files dir.now trees.now) result }
+    ensures write_fault { CountsWrites (F.write_faults files.old) (F.write_faults files.new) result }
     ensures reads { reads_told (F.store files.new) ≡ reads_told (F.store files.old) }
     ensures read_faults { F.read_faults files.new ≡ F.read_faults files.old }
-    ensures write_can_fail { IsErrOf result (home.Files files_fault.Failed) → F.can_fail files.old }
+    ensures write_can_fail { IsErrOf result files_fault.Failed → F.can_fail files.old }
     ensures files_stay { F.can_fail files.new → F.can_fail files.old }
 {
-    let list = class_list(alloc, trees)?;
-    let folder = below(alloc, dir, "/boot")?;
-    let path = below(alloc, dir, "/classlist")?;
+    let Ok(list) = names_text(alloc, trees) else {
+        return Err(FilesFault::Memory);
+    };
+    let Ok(folder) = below(alloc, dir, "/boot") else {
+        return Err(FilesFault::Memory);
+    };
+    let Ok(path) = below(alloc, dir, "/classlist") else {
+        return Err(FilesFault::Memory);
+    };
     write_all(
         alloc,
         folder.as_str(),
@@ -120,7 +127,10 @@ pub fn write_home<F: Files>(
     ensures files_stay { F.can_fail files.new → F.can_fail files.old }
 {
     match assemble(alloc, text.as_bytes()) {
-        Ok(trees) => write_trees(alloc, dir, trees.as_slice(), files),
+        Ok(trees) => match write_trees(alloc, dir, trees.as_slice(), files) {
+            Ok(()) => Ok(()),
+            Err(fault) => Err(HomeFault::Files(fault)),
+        },
         Err(AsmFault::Line(number)) => Err(HomeFault::Line(number)),
         Err(AsmFault::Memory) => Err(HomeFault::Memory),
     }

@@ -2,7 +2,6 @@
 #![tactic(auto)]
 
 mod builders;
-mod class_files;
 mod classes;
 mod errors;
 mod exceptions;

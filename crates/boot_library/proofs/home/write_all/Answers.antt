@@ -1,7 +1,7 @@
 use Rattle.std.proofs.Common.{ℕ, List, [], ◌∷◌, subst}
-use Rattle.boot_library.specs.ClassFiles.{File, files_of, contents_told}
-use Rattle.boot_library.specs.Home.{file_at, WritesFiles}
-use Rattle.boot_library.proofs.ClassFiles.{then_others, before_others}
+use Rattle.jsa_files.specs.Told.{contents_told}
+use Rattle.class_folder.specs.ClassFiles.{File, files_of, file_at, WritesFiles}
+use Rattle.class_folder.proofs.ClassFiles.{then_others, before_others}
 use Rattle.boot_library.proofs.home.write_all.Goals as goal
 
 pub returns-in-Ok-clause-writes : goal.returns-in-Ok-clause-writes

@@ -1,15 +1,15 @@
 use Rattle.std.proofs.Common.{◌≡◌, ℕ, length, Option}
 use Rattle.std.specs.Prelude.{Result}
 use Rattle.jsa_files.specs.Store.{Contents}
-use Rattle.boot_library.specs.declared.fault.HomeFault.{HomeFault}
-use Rattle.boot_library.specs.ClassFiles.{contents_told, reads_told, files_of}
-use Rattle.boot_library.specs.Home.{WritesFiles}
-use Rattle.boot_library.proofs.class_files.write_classes.Given as goal
+use Rattle.jsa_files.specs.declared.fault.FilesFault.{FilesFault}
+use Rattle.jsa_files.specs.Told.{contents_told, reads_told}
+use Rattle.class_folder.specs.ClassFiles.{files_of, WritesFiles}
+use Rattle.class_folder.proofs.class_files.write_classes.Given as goal
 
 -- Whatever follows with the rest follows with all.
 abbrev pub invariant-loop-rest : goal.invariant-loop-rest
 invariant-loop-rest g l = record {
-  follows : (new : Option Contents) (now : ℕ) (result : Result (Unit {0}) HomeFault) → WritesFiles (contents_told (g.F.Files.store l.files)) new (g.F.Files.write_faults l.files, now) (files_of l.folder l.rest) result
+  follows : (new : Option Contents) (now : ℕ) (result : Result (Unit {0}) FilesFault) → WritesFiles (contents_told (g.F.Files.store l.files)) new (g.F.Files.write_faults l.files, now) (files_of l.folder l.rest) result
       → WritesFiles (contents_told (g.F.Files.store l.fn.files)) new (g.F.Files.write_faults l.fn.files, now) (files_of l.folder l.trees) result;
   writes : g.F.Files.write_faults l.files ≡ g.F.Files.write_faults l.fn.files;
   reads : reads_told (g.F.Files.store l.files) ≡ reads_told (g.F.Files.store l.fn.files);

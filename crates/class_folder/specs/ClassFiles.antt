@@ -1,9 +1,13 @@
--- Class files that are written to a store one after the other.
-use Rattle.std.specs.Prelude.{◌≡◌, ◌⊎◌, ℕ, List, [], ◌∷◌, ◌++◌, Option}
+-- The files of classes in a folder, and what files that are written to a store one after the other leave there.
+use Rattle.std.specs.Prelude.{◌≡◌, ◌⊎◌, ◌≤◌, ℕ, List, [], ◌∷◌, ◌++◌, length, Option, Some, Result, Ok, Err}
 use Rattle.std.specs.FinMap.{insert}
 use Rattle.std.specs.List.{filter_map}
 use Rattle.std.specs.Option.{option_and_then, option_map}
-use Rattle.jsa_files.specs.Store.{Contents, Store}
+use Rattle.jsa_files.specs.declared.fault.FilesFault.{FilesFault}
+use Rattle.jsa_files.specs.declared.fault.FilesFault.TheVariants.{Failed, TooLarge, TooMany, Memory}
+use Rattle.jsa_files.specs.Causes.{Rose}
+use Rattle.jsa_files.specs.Store.{Contents}
+use Rattle.jsa_files.specs.Told.{HoldsFront}
 use Rattle.jsa_names.specs.Paths as names
 use Rattle.class_tree.specs.declared.tree.ClassTree.{ClassTree}
 use Rattle.class_tree.specs.WellFormed.{class_name}
@@ -27,14 +31,18 @@ file_of_tree folder tree = option_map (λ path. record { path = path; bytes = en
 abbrev pub files_of : List ℕ → List ClassTree → List File
 files_of folder trees = filter_map (file_of_tree folder) trees
 
+-- The class's name has a path in the folder.
+abbrev pub HasFile : List ℕ → ClassTree → Type 0
+HasFile folder tree = (path : List ℕ) × (path_of_tree folder tree ≡ Some path)
+
+-- as many files as classes
+abbrev pub HaveFiles : List ℕ → List ClassTree → Type 0
+HaveFiles folder trees = length (files_of folder trees) ≡ length trees
+
+abbrev pub file_at : List ℕ → List ℕ → File
+file_at path bytes = record { path = path; bytes = bytes }
+
 -- ---- what a store holds
-
-abbrev pub contents_told : Option Store → Option Contents
-contents_told store = option_map (λ s. s.contents) store
-
--- the paths whose bytes it handed out
-abbrev pub reads_told : Option Store → Option (List (List ℕ))
-reads_told store = option_map (λ s. s.reads) store
 
 -- what it holds once files were written, one after the other
 abbrev pub with_files : Contents → List File → Contents
@@ -44,13 +52,6 @@ with_files contents (file ∷ files) = with_files (insert contents file.path fil
 -- the same, where it tells
 abbrev pub after_files : Option Contents → List File → Option Contents
 after_files contents files = option_map (λ c. with_files c files) contents
-
--- The path holds a front of these bytes, and every other path what it held.
-pub record HoldsFront (old new : Option Contents) (path bytes : List ℕ) : Type 0 where
-  pub front : List ℕ
-  pub tail : List ℕ
-  pub whole : bytes ≡ front ++ tail
-  pub holds : new ≡ option_map (λ contents. insert contents path front) old
 
 -- The first of the files were written, and nothing else.
 pub record WritesSome (old new : Option Contents) (files : List File) : Type 0 where
@@ -66,3 +67,21 @@ pub record FailsAt (old new : Option Contents) (files : List File) : Type 0 wher
   pub rest : List File
   pub among : files ≡ done ++ file ∷ rest
   pub holds : (new ≡ after_files old done) ⊎ HoldsFront (after_files old done) new file.path file.bytes
+
+-- ---- what a call that writes files answers
+
+-- Files were written, one after the other; or the first of them, and why not all.
+abbrev pub WritesFiles : {T : Type 0} → Option Contents → Option Contents → ℕ × ℕ → List File → Result T FilesFault → Type 0
+WritesFiles old new faults asked (Ok x) = new ≡ after_files old asked
+WritesFiles old new faults asked (Err Failed) = FailsAt old new asked × Rose faults.0 faults.1
+WritesFiles old new faults asked (Err Memory) = WritesSome old new asked
+WritesFiles old new faults asked (Err (TooLarge size)) = ⊥
+WritesFiles old new faults asked (Err (TooMany count)) = ⊥
+
+-- The count of a store's writes that failed: it rose where a write failed, and else is as before.
+abbrev pub CountsWrites : {T : Type 0} → ℕ → ℕ → Result T FilesFault → Type 0
+CountsWrites before now (Ok x) = now ≡ before
+CountsWrites before now (Err Failed) = (before ≤ now) × Rose before now
+CountsWrites before now (Err Memory) = now ≡ before
+CountsWrites before now (Err (TooLarge size)) = now ≡ before
+CountsWrites before now (Err (TooMany count)) = now ≡ before

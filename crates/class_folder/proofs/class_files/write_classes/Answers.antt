@@ -1,9 +1,9 @@
 use Rattle.std.proofs.Common.{◌∙◌, ◌-◌, ℕ, length, take, drop, subst}
 use Rattle.std.specs.Prelude.{Ok, Err}
-use Rattle.boot_library.specs.ClassFiles.{contents_told, files_of}
-use Rattle.boot_library.specs.Home.{WritesFiles}
-use Rattle.boot_library.proofs.ClassFiles.{first_of, turned, stopped, none_left}
-use Rattle.boot_library.proofs.class_files.write_classes.Goals as goal
+use Rattle.jsa_files.specs.Told.{contents_told}
+use Rattle.class_folder.specs.ClassFiles.{files_of, WritesFiles}
+use Rattle.class_folder.proofs.ClassFiles.{first_of, turned, stopped, none_left}
+use Rattle.class_folder.proofs.class_files.write_classes.Goals as goal
 
 pub returns-in_default-clause-writes : goal.returns-in_default-clause-writes
 returns-in_default-clause-writes g c =

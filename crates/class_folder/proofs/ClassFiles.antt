@@ -6,17 +6,13 @@ use Rattle.std.specs.FinMap.{insert}
 use Rattle.std.specs.Option.{option_map, option_and_then}
 use Rattle.std.proofs.lemmas.List.{append_assoc}
 use Rattle.std.proofs.Math.Seq.{take-length}
+use Rattle.jsa_files.specs.declared.fault.FilesFault.{FilesFault}
 use Rattle.jsa_files.specs.declared.fault.FilesFault.TheVariants as answers
 use Rattle.jsa_files.specs.Store.{Contents, Store, Writes, with_file}
 use Rattle.class_tree.specs.declared.tree.ClassTree.{ClassTree}
 use Rattle.class_tree.specs.Encoded.{encoded}
-use Rattle.class_tree.specs.WellFormed.{class_name}
-use Rattle.class_asm.specs.Laws.{HasPath}
-use Rattle.jsa_names.specs.Paths as names
-use Rattle.boot_library.specs.declared.fault.HomeFault.{HomeFault}
-use Rattle.boot_library.specs.declared.fault.HomeFault.TheVariants.{Line, Files, Memory}
-use Rattle.boot_library.specs.ClassFiles.{File, path_of_tree, file_of_tree, files_of, contents_told, after_files, HoldsFront, WritesSome, FailsAt}
-use Rattle.boot_library.specs.Home.{file_at, WritesFiles}
+use Rattle.jsa_files.specs.Told.{contents_told, HoldsFront}
+use Rattle.class_folder.specs.ClassFiles.{File, HasFile, HaveFiles, path_of_tree, file_of_tree, files_of, file_at, after_files, WritesSome, FailsAt, WritesFiles}
 
 -- What a pattern of a first item and the others gives.
 pub first_of : {A : Type 0} (xs : List A) (x : A) → x ≡ get_or xs 0 x → 1 ≤ length xs → xs ≡ x ∷ take (length xs - 1) (drop 1 xs)
@@ -84,22 +80,20 @@ fails_later file old mid new rest e h = record {
 }
 
 -- A file was written, and then others.
-pub then_file : {T : Type 0} (file : File) (old mid new : Option Contents) (faults : ℕ × ℕ) (rest : List File) (r : Result T HomeFault) → mid ≡ after_files old (file ∷ []) → WritesFiles mid new faults rest r → WritesFiles old new faults (file ∷ rest) r
+pub then_file : {T : Type 0} (file : File) (old mid new : Option Contents) (faults : ℕ × ℕ) (rest : List File) (r : Result T FilesFault) → mid ≡ after_files old (file ∷ []) → WritesFiles mid new faults rest r → WritesFiles old new faults (file ∷ rest) r
 then_file file old mid new faults rest (Ok x) e h = h ∙ ap (λ (o : Option Contents). after_files o rest) e ∙ after_more old file rest
-then_file file old mid new faults rest (Err (Line number)) e h = absurd h
-then_file file old mid new faults rest (Err (Files answers.Failed)) e h = (fails_later file old mid new rest e h.0, h.1)
-then_file file old mid new faults rest (Err (Files answers.Memory)) e h = some_more file old mid new rest e h
-then_file file old mid new faults rest (Err (Files (answers.TooLarge size))) e h = absurd h
-then_file file old mid new faults rest (Err (Files (answers.TooMany count))) e h = absurd h
-then_file file old mid new faults rest (Err Memory) e h = some_more file old mid new rest e h
+then_file file old mid new faults rest (Err answers.Failed) e h = (fails_later file old mid new rest e h.0, h.1)
+then_file file old mid new faults rest (Err answers.Memory) e h = some_more file old mid new rest e h
+then_file file old mid new faults rest (Err (answers.TooLarge size)) e h = absurd h
+then_file file old mid new faults rest (Err (answers.TooMany count)) e h = absurd h
 
 -- The file of a class was written, if it has one, and then the others.
-pub then_files : {T : Type 0} (o : Option File) (old mid new : Option Contents) (faults : ℕ × ℕ) (rest : List File) (r : Result T HomeFault) → mid ≡ after_files old (cons_option o []) → WritesFiles mid new faults rest r → WritesFiles old new faults (cons_option o rest) r
+pub then_files : {T : Type 0} (o : Option File) (old mid new : Option Contents) (faults : ℕ × ℕ) (rest : List File) (r : Result T FilesFault) → mid ≡ after_files old (cons_option o []) → WritesFiles mid new faults rest r → WritesFiles old new faults (cons_option o rest) r
 then_files None old mid new faults rest r e h = subst (λ (c : Option Contents). WritesFiles c new faults rest r) (e ∙ sym (after_none old)) h
 then_files (Some file) old mid new faults rest r e h = then_file file old mid new faults rest r e h
 
 -- Files were written one after the other, and then others.
-pub then_others : {T : Type 0} (files : List File) (old mid new : Option Contents) (faults : ℕ × ℕ) (others : List File) (r : Result T HomeFault) → mid ≡ after_files old files → WritesFiles mid new faults others r → WritesFiles old new faults (files ++ others) r
+pub then_others : {T : Type 0} (files : List File) (old mid new : Option Contents) (faults : ℕ × ℕ) (others : List File) (r : Result T FilesFault) → mid ≡ after_files old files → WritesFiles mid new faults others r → WritesFiles old new faults (files ++ others) r
 then_others [] old mid new faults others r e h = subst (λ (c : Option Contents). WritesFiles c new faults others r) (e ∙ sym (after_none old)) h
 then_others (file ∷ files) old mid new faults others r e h =
     then_file file old (after_files old (file ∷ [])) new faults (files ++ others) r refl
@@ -123,13 +117,11 @@ some_before old new files others h = record {
 }
 
 -- Not all of the files were written, and no others.
-pub before_others : (T : Type 0) (old new : Option Contents) (faults : ℕ × ℕ) (files others : List File) (fault : HomeFault) → WritesFiles {T = T} old new faults files (Err fault) → WritesFiles {T = T} old new faults (files ++ others) (Err fault)
-before_others T old new faults files others (Line number) h = absurd h
-before_others T old new faults files others (Files answers.Failed) h = (fails_before old new files others h.0, h.1)
-before_others T old new faults files others (Files answers.Memory) h = some_before old new files others h
-before_others T old new faults files others (Files (answers.TooLarge size)) h = absurd h
-before_others T old new faults files others (Files (answers.TooMany count)) h = absurd h
-before_others T old new faults files others Memory h = some_before old new files others h
+pub before_others : (T : Type 0) (old new : Option Contents) (faults : ℕ × ℕ) (files others : List File) (fault : FilesFault) → WritesFiles {T = T} old new faults files (Err fault) → WritesFiles {T = T} old new faults (files ++ others) (Err fault)
+before_others T old new faults files others answers.Failed h = (fails_before old new files others h.0, h.1)
+before_others T old new faults files others answers.Memory h = some_before old new files others h
+before_others T old new faults files others (answers.TooLarge size) h = absurd h
+before_others T old new faults files others (answers.TooMany count) h = absurd h
 
 cons_append : (o : Option File) (others : List File) → cons_option o [] ++ others ≡ cons_option o others
 cons_append None others = refl
@@ -138,13 +130,13 @@ cons_append (Some file) others = refl
 -- ---- the loop over the classes
 
 -- A class was written, and then the others.
-pub turned : (T : Type 0) (folder : List ℕ) (rest : List ClassTree) (tree : ClassTree) (more : List ClassTree) (old mid new : Option Contents) (faults : ℕ × ℕ) (r : Result T HomeFault) → rest ≡ tree ∷ more
+pub turned : (T : Type 0) (folder : List ℕ) (rest : List ClassTree) (tree : ClassTree) (more : List ClassTree) (old mid new : Option Contents) (faults : ℕ × ℕ) (r : Result T FilesFault) → rest ≡ tree ∷ more
     → mid ≡ after_files old (files_of folder (tree ∷ [])) → WritesFiles mid new faults (files_of folder more) r → WritesFiles old new faults (files_of folder rest) r
 turned T folder rest tree more old mid new faults r e w h =
     subst (λ (l : List ClassTree). WritesFiles old new faults (files_of folder l) r) (sym e) (then_files (file_of_tree folder tree) old mid new faults (files_of folder more) r w h)
 
 -- A class wasn't written, and no others.
-pub stopped : (T : Type 0) (folder : List ℕ) (rest : List ClassTree) (tree : ClassTree) (more : List ClassTree) (old new : Option Contents) (faults : ℕ × ℕ) (fault : HomeFault) → rest ≡ tree ∷ more
+pub stopped : (T : Type 0) (folder : List ℕ) (rest : List ClassTree) (tree : ClassTree) (more : List ClassTree) (old new : Option Contents) (faults : ℕ × ℕ) (fault : FilesFault) → rest ≡ tree ∷ more
     → WritesFiles {T = T} old new faults (files_of folder (tree ∷ [])) (Err fault) → WritesFiles {T = T} old new faults (files_of folder rest) (Err fault)
 stopped T folder rest tree more old new faults fault e h =
     let one = file_of_tree folder tree in
@@ -159,16 +151,14 @@ none_left folder (tree ∷ rest) old h = absurd (omega (arith, h))
 
 -- ---- each class has a file
 
-by_name : (folder bytes : List ℕ) (name : Option (List ℕ)) → HasPath folder name → (file : File) × (option_map (λ path. record { path = path; bytes = bytes }) (option_and_then (names.path_of folder) name) ≡ Some file)
-by_name folder bytes None h = absurd h
-by_name folder bytes (Some name) h = (record { path = h.0; bytes = bytes }, ap (option_map (λ (path : List ℕ). record { path = path; bytes = bytes })) h.1)
+by_path : (bytes : List ℕ) (path : Option (List ℕ)) (p : List ℕ) → path ≡ Some p → option_map (λ q. file_at q bytes) path ≡ Some (file_at p bytes)
+by_path bytes path p e = ap (option_map (λ (q : List ℕ). file_at q bytes)) e
 
 first_more : (found : Option File) (file : File) (others : List File) (n : ℕ) → found ≡ Some file → length others ≡ n → length (cons_option found others) ≡ suc n
 first_more found file others n is e = ap (λ (o : Option File). length (cons_option o others)) is ∙ ap suc e
 
--- Each class of a text has a file.
-pub each_file : (folder : List ℕ) (trees : List ClassTree) → AllByRecursion (λ t. HasPath folder (class_name t.pool t.this)) trees → length (files_of folder trees) ≡ length trees
+-- Each class whose name has a path has a file.
+pub each_file : (folder : List ℕ) (trees : List ClassTree) → AllByRecursion (HasFile folder) trees → HaveFiles folder trees
 each_file folder [] all = refl
 each_file folder (t ∷ trees) all =
-    let f = by_name folder (encoded t) (class_name t.pool t.this) all.0 in
-    first_more (file_of_tree folder t) f.0 (files_of folder trees) (length trees) f.1 (each_file folder trees all.1)
+    first_more (file_of_tree folder t) (file_at all.0.0 (encoded t)) (files_of folder trees) (length trees) (by_path (encoded t) (path_of_tree folder t) all.0.0 all.0.1) (each_file folder trees all.1)

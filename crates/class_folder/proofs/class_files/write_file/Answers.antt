@@ -1,5 +1,5 @@
-use Rattle.boot_library.proofs.ClassFiles.{fails_first}
-use Rattle.boot_library.proofs.class_files.write_file.Goals as goal
+use Rattle.class_folder.proofs.ClassFiles.{fails_first}
+use Rattle.class_folder.proofs.class_files.write_file.Goals as goal
 
 pub returns-in-Err-Failed-clause-writes : goal.returns-in-Err-Failed-clause-writes
 returns-in-Err-Failed-clause-writes g c =
