@@ -1,7 +1,49 @@
-//! The program: it hands the words of the process to `run_command`, and ends with the status of its answer.
+//! The program: the whole path from the words of the command line to the sinks. It runs a main class over a home of boot
+//! classes or out of an archive, dumps classes into an archive, assembles texts into class files, and makes homes. `main`
+//! hands the words of the process to `run_command`, and ends with the status of its answer.
 #![tactic(auto)]
 
-use jsa_command::{Ended, run_command, status, tell};
+mod archive_run;
+#[cfg(test)]
+mod archive_tests;
+#[cfg(test)]
+mod asm_rows;
+mod assembling;
+#[cfg(test)]
+mod bench;
+#[cfg(test)]
+mod byte_tests;
+#[cfg(test)]
+mod changes;
+#[cfg(test)]
+mod class_tests;
+mod command;
+#[cfg(test)]
+mod command_rows;
+mod dump;
+#[cfg(test)]
+mod end_rows;
+mod ended;
+#[cfg(test)]
+mod example_classes;
+#[cfg(test)]
+mod failure_rows;
+mod faults;
+mod file_run;
+mod folder;
+mod gathering;
+mod home;
+#[cfg(test)]
+mod home_tests;
+mod lines;
+#[cfg(test)]
+mod looks;
+#[cfg(test)]
+mod run_tests;
+
+use crate::command::run_command;
+use crate::ended::{Ended, status};
+use crate::lines::tell;
 use jsa_files::{DiskFiles, StdSink};
 use std::alloc::AllocError;
 use std::env;

@@ -1,7 +1,8 @@
 // What words ask for.
 use crate::said::{say_all, say_number};
-use home_run::HomeRun;
-use jsa_command::{AsmWords, Command, DumpWords, RunWords, Share, class_path, read_words};
+use command_words::{
+    AsmWords, Command, DumpWords, HomeRun, RunWords, Share, class_path, read_words,
+};
 use std::alloc::{AllocError, Global};
 
 fn push_word(alloc: Global, word: &str, words: &mut Vec<String>) -> Result<(), AllocError> {
@@ -31,10 +32,28 @@ fn say_folders(folders: &[String], said: &mut String) -> Result<(), AllocError> 
     Ok(())
 }
 
+fn say_digit(digit: u8, said: &mut String) -> Result<(), AllocError> {
+    said.push(char::from_digit(u32::from(digit), 16).unwrap_or('?'))
+}
+
+// A name as a text, or behind a # the bytes of one that is no UTF-8, each by two hexadecimal digits.
+fn say_name(name: &[u8], said: &mut String) -> Result<(), AllocError> {
+    if let Ok(text) = str::from_utf8(name) {
+        return said.push_str(text);
+    }
+    said.push_str("#")?;
+    for b in name {
+        say_digit(b / 16, said)?;
+        say_digit(b % 16, said)?;
+    }
+    Ok(())
+}
+
 // Of a run over a home the main class, the home, the folders, the list and the limit.
 fn say_home_run(alloc: Global, run: &HomeRun, said: &mut String) -> Result<(), AllocError> {
-    let name = str::from_utf8(&run.name).unwrap_or("no text");
-    say_all(&["home ", name, " ", run.home.as_str(), " ["], said)?;
+    said.push_str("home ")?;
+    say_name(&run.name, said)?;
+    say_all(&[" ", run.home.as_str(), " ["], said)?;
     say_folders(&run.folders, said)?;
     say_all(&["] ", run.list.as_deref().unwrap_or("-"), " "], said)?;
     say_number(alloc, run.steps, said)
@@ -54,11 +73,10 @@ fn share_word(share: Share) -> &'static str {
 
 // Of a run the path of the main class, whether the archive has to be used, its path and the limit.
 fn say_run(alloc: Global, run: &RunWords, said: &mut String) -> Result<(), AllocError> {
-    let archive = run.archive.as_deref().unwrap_or("-");
     said.push_str("run ")?;
     say_path(run, said)?;
     said.push_str(share_word(run.share))?;
-    said.push_str(archive)?;
+    said.push_str(run.archive.as_str())?;
     said.push_str(" ")?;
     say_number(alloc, run.steps, said)
 }

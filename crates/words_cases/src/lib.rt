@@ -1,11 +1,9 @@
-//! What the words of commands ask for, the lines of their ends and the names of class lists, written by hand; and that the
+//! What the words of commands ask for, and the names of class lists, written by hand; and that the
 //! class of a compiled program and that of its text say the same.
 #![tactic(auto)]
 
 #[cfg(test)]
 mod asked;
-#[cfg(test)]
-mod ends;
 #[cfg(test)]
 mod lists;
 #[cfg(test)]

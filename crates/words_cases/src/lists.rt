@@ -1,6 +1,6 @@
 // The names of class lists.
 use crate::said::say_bytes;
-use jsa_command::read_list;
+use command_words::read_list;
 use std::alloc::{AllocError, Global};
 
 fn byte_of(character: char) -> u8 {

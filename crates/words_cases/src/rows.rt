@@ -1,20 +1,17 @@
 // Rows `CALL = ANSWER`. The calls:
 //
 //     words WORDS               what words ask for, each behind a bar
-//     line END whole, ... cut   the line of an end for the subject a/B and 9 turns, or its front where the put fails behind three
-//                               bytes; either way the end is given back
 //     list TEXT                 the names of a class list, with a comma behind each. Each character of the text is a byte
 //     compiled, assembled       what a class says
 //
-// In lists and lines `~` is a line feed and `^` a carriage return.
+// In lists `~` is a line feed and `^` a carriage return.
 use crate::asked::say_asked;
-use crate::ends::say_line;
 use crate::lists::say_list;
 use crate::trees::{say_assembled, say_compiled};
 use std::alloc::{AllocError, Global};
 
 // The first word, and what stands behind its space.
-pub(crate) fn first_word(text: &str) -> (&str, &str) {
+fn first_word(text: &str) -> (&str, &str) {
     text.split_once(' ').unwrap_or((text, ""))
 }
 
@@ -27,7 +24,6 @@ fn say(alloc: Global, call: &str, said: &mut String) -> Result<(), AllocError> {
     let (verb, words) = first_word(call);
     match verb {
         "words" => say_asked(alloc, words, said),
-        "line" => say_line(alloc, words, said),
         "list" => say_list(alloc, words, said),
         "compiled" => say_compiled(alloc, said),
         "assembled" => say_assembled(alloc, said),

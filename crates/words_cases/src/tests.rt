@@ -1,58 +1,7 @@
-// Words, lines, lists and classes.
+// Words, lists and classes.
 use crate::rows::wrong_rows;
 use crate::word_rows::{FOLDERS, WORDS};
 use std::test::Fail;
-
-// The line of each end, whole and cut.
-static ENDS: &str = "\
-line exit whole = 
-line exit cut = 
-line usage whole = usage~
-line usage cut = usa
-line bad-text whole = line 4294967295~
-line bad-text cut = lin
-line no-boot whole = no boot class a/B~
-line no-boot cut = no 
-line no-main whole = no main in a/B~
-line no-main cut = no 
-line stopped whole = stopped after 9 steps~
-line stopped cut = sto
-line unsupported whole = unsupported a/B~
-line unsupported cut = uns
-line read-fault whole = read fault~
-line read-fault cut = rea
-line write-fault whole = write fault~
-line write-fault cut = wri
-line missing whole = missing a/B~
-line missing cut = mis
-line memory whole = out of memory~
-line memory cut = out
-line short whole = not shared a/B: short~
-line short cut = not
-line magic whole = not shared a/B: magic~
-line magic cut = not
-line version whole = not shared a/B: version 7~
-line version cut = not
-line digest whole = not shared a/B: digest~
-line digest cut = not
-line layer whole = not shared a/B: layer~
-line layer cut = not
-line malformed whole = not shared a/B: malformed~
-line malformed cut = not
-line path whole = not shared a/B: path 2~
-line path cut = not
-line base whole = not shared a/B: base~
-line base cut = not
-line names whole = limit Names 1~
-line names cut = lim
-line classes whole = limit Classes 2~
-line classes cut = lim
-line archive-size whole = limit ArchiveSize 3~
-line archive-size cut = lim
-line loaded whole = limit Loaded 4~
-line loaded cut = lim
-line file-size whole = limit FileSize 67108864~
-line file-size cut = lim";
 
 // Class lists, and their names.
 static LISTS: &str = "\
@@ -79,8 +28,8 @@ compiled = class Hello java/lang/Object 33 0 method <init> ()V 1 1 1: 42, 183 ja
 assembled = class Hello java/lang/Object 33 0 method <init> ()V 1 1 1: 42, 183 java/lang/Object <init> ()V, 177, method main ([Ljava/lang/String;)V 9 2 1: 178 java/lang/System out Ljava/io/PrintStream;, 18 Hello, 182 java/io/PrintStream println (Ljava/lang/String;)V, 177, ";
 
 #[test]
-fn words_lines_lists_and_classes_are_as_written(rt: HostRuntime) -> Result<(), Fail> {
-    let texts = [FOLDERS, WORDS, ENDS, LISTS, SAID];
+fn words_lists_and_classes_are_as_written(rt: HostRuntime) -> Result<(), Fail> {
+    let texts = [FOLDERS, WORDS, LISTS, SAID];
     assert_eq!(rt; wrong_rows(rt.alloc(), &texts)?.as_str(), "");
     Ok(())
 }

@@ -2,24 +2,24 @@
 
 // A folder and a main class, and the path of its file; class paths of 64 folders and more; and no words.
 pub(crate) static FOLDERS: &str = "\
-words |-Xshare:auto|-cp|app|Main = run app/Main.class auto - 1000000000
-words |-Xshare:auto|-cp|a b/c|x.y_1.Z$ = run a b/c/x/y_1/Z$.class auto - 1000000000
-words |-Xshare:auto|-cp|**|A = run **/A.class auto - 1000000000
-words |-Xshare:auto|-cp|jar|9 = run jar/9.class auto - 1000000000
-words |-Xshare:auto|-cp|a.jar/|A = run a.jar//A.class auto - 1000000000
-words |-Xshare:auto|-cp|a.JAR|A = run a.JAR/A.class auto - 1000000000
-words |-Xshare:auto|-cp||A = nothing
-words |-Xshare:auto|-cp|*|A = nothing
-words |-Xshare:auto|-cp|a:b|A = nothing
-words |-Xshare:auto|-cp|a.jar|A = nothing
-words |-Xshare:auto|-cp|.zip|A = nothing
-words |-Xshare:auto|-cp|app| = nothing
-words |-Xshare:auto|-cp|app|.A = nothing
-words |-Xshare:auto|-cp|app|A. = nothing
-words |-Xshare:auto|-cp|app|a..B = nothing
-words |-Xshare:auto|-cp|app|a/B = nothing
-words |-Xshare:auto|-cp|app|a-B = nothing
-words |-Xshare:auto|-cp|app|\u{e9} = nothing
+words |-XX:SharedArchiveFile=a|-cp|app|Main = run app/Main.class auto a 1000000000
+words |-XX:SharedArchiveFile=a|-cp|a b/c|x.y_1.Z$ = run a b/c/x/y_1/Z$.class auto a 1000000000
+words |-XX:SharedArchiveFile=a|-cp|**|A = run **/A.class auto a 1000000000
+words |-XX:SharedArchiveFile=a|-cp|jar|9 = run jar/9.class auto a 1000000000
+words |-XX:SharedArchiveFile=a|-cp|a.jar/|A = run a.jar//A.class auto a 1000000000
+words |-XX:SharedArchiveFile=a|-cp|a.JAR|A = run a.JAR/A.class auto a 1000000000
+words |-XX:SharedArchiveFile=a|-cp||A = nothing
+words |-XX:SharedArchiveFile=a|-cp|*|A = nothing
+words |-XX:SharedArchiveFile=a|-cp|a:b|A = nothing
+words |-XX:SharedArchiveFile=a|-cp|a.jar|A = nothing
+words |-XX:SharedArchiveFile=a|-cp|.zip|A = nothing
+words |-XX:SharedArchiveFile=a|-cp|app| = nothing
+words |-XX:SharedArchiveFile=a|-cp|app|.A = nothing
+words |-XX:SharedArchiveFile=a|-cp|app|A. = nothing
+words |-XX:SharedArchiveFile=a|-cp|app|a..B = nothing
+words |-XX:SharedArchiveFile=a|-cp|app|a/B = nothing
+words |-XX:SharedArchiveFile=a|-cp|app|a-B = nothing
+words |-XX:SharedArchiveFile=a|-cp|app|\u{e9} = nothing
 words |-cp|d|Main = home Main jsa-home [d,] - 1000000000
 words |-cp|d:d:d:d:d:d:d:d:d:d:d:d:d:d:d:d:d:d:d:d:d:d:d:d:d:d:d:d:d:d:d:d:d:d:d:d:d:d:d:d:d:d:d:d:d:d:d:d:d:d:d:d:d:d:d:d:d:d:d:d:d:d:d|Main = home Main jsa-home [d,d,d,d,d,d,d,d,d,d,d,d,d,d,d,d,d,d,d,d,d,d,d,d,d,d,d,d,d,d,d,d,d,d,d,d,d,d,d,d,d,d,d,d,d,d,d,d,d,d,d,d,d,d,d,d,d,d,d,d,d,d,d,] - 1000000000
 words |-cp|d:d:d:d:d:d:d:d:d:d:d:d:d:d:d:d:d:d:d:d:d:d:d:d:d:d:d:d:d:d:d:d:d:d:d:d:d:d:d:d:d:d:d:d:d:d:d:d:d:d:d:d:d:d:d:d:d:d:d:d:d:d:d:d|Main = home Main jsa-home [d,d,d,d,d,d,d,d,d,d,d,d,d,d,d,d,d,d,d,d,d,d,d,d,d,d,d,d,d,d,d,d,d,d,d,d,d,d,d,d,d,d,d,d,d,d,d,d,d,d,d,d,d,d,d,d,d,d,d,d,d,d,d,d,] - 1000000000
@@ -31,15 +31,42 @@ pub(crate) static WORDS: &str = "\
 words |-cp|app|Main = home Main jsa-home [app,] - 1000000000
 words |-cp|app|--steps=7|Main = home Main jsa-home [app,] - 7
 words |--steps=0x10|-cp|app|Main = home Main jsa-home [app,] - 16
-words |-cp|app|--steps=7|-Xshare:auto|Main = run app/Main.class auto - 7
-words |--steps=0x10|-Xshare:auto|-cp|app|Main = run app/Main.class auto - 16
-words |-Xshare:auto|-cp|app|Main = run app/Main.class auto - 1000000000
-words |-Xshare:on|-cp|app|Main = run app/Main.class on - 1000000000
-words |-cp|app|-Xshare:on|Main = run app/Main.class on - 1000000000
+words |-cp|app|--steps=7|-Xshare:auto|Main = home Main jsa-home [app,] - 7
+words |--steps=0x10|-Xshare:auto|-cp|app|Main = home Main jsa-home [app,] - 16
+words |-Xshare:auto|-cp|app|Main = home Main jsa-home [app,] - 1000000000
+words |-Xshare:on|-cp|app|Main = home Main jsa-home [app,] - 1000000000
+words |-cp|app|-Xshare:on|Main = home Main jsa-home [app,] - 1000000000
 words |-XX:SharedArchiveFile=a.jsa|-cp|app|p.Main = run app/p/Main.class auto a.jsa 1000000000
 words |-cp|app|-XX:SharedArchiveFile=a.jsa|Main = run app/Main.class auto a.jsa 1000000000
 words |--steps=1|-XX:SharedArchiveFile=a|-Xshare:on|-cp|b|C = run b/C.class on a 1
 words |-Xshare:on|-cp|b|--steps=1|-XX:SharedArchiveFile=a|C = run b/C.class on a 1
+words |-cp|app|--steps=7|-XX:SharedArchiveFile=a|Main = run app/Main.class auto a 7
+words |--steps=0x10|-Xshare:auto|-XX:SharedArchiveFile=a|-cp|app|Main = run app/Main.class auto a 16
+words |-Xshare:auto|-XX:SharedArchiveFile=a|Main = nothing
+words |-XX:SharedArchiveFile=a|-cp|app|-cp|app|Main = nothing
+words |-XX:SharedArchiveFile=a|--steps=1|--steps=1|-cp|app|Main = nothing
+words |-Xshare:auto|-Xshare:auto|-XX:SharedArchiveFile=a|-cp|app|Main = nothing
+words |-Xshare:auto|-Xshare:on|-XX:SharedArchiveFile=a|-cp|app|Main = nothing
+words |-Xshare:off|-XX:SharedArchiveFile=a|-cp|app|Main = home Main jsa-home [app,] - 1000000000
+words |-XX:SharedArchiveFile=a|-Xshare:off|-cp|app|Main = home Main jsa-home [app,] - 1000000000
+words |-Xshare:off|-XX:SharedArchiveFile=a|--home=h|-cp|a:b|-XX:DumpLoadedClassList=l|--steps=3|Main = home Main h [a,b,] l 3
+words |-XX:SharedArchiveFile=a|-XX:SharedArchiveFile=b|-Xshare:off|Main = home Main jsa-home [.,] - 1000000000
+words |-XX:SharedArchiveFile=a|-Xshare:on|-Xshare:off|-cp|app|Main = home Main jsa-home [app,] - 1000000000
+words |-XX:SharedArchiveFile=a|-Xshare:off|-Xshare:on|-cp|app|Main = nothing
+words |-XX:SharedArchiveFile=a|-Xshare:off|-Xshare:auto|-cp|app|Main = nothing
+words |-Xshare:off|-XX:SharedArchiveFile=a.class|-cp|app|Main = nothing
+words |-Xshare:off|-XX:SharedArchiveFile=s:d|-cp|app|Main = nothing
+words |-Xshare:off|-XX:SharedClassListFile=l|-cp|app|Main = nothing
+words |-Xshare:off|-Xshare:dump|-XX:SharedClassListFile=l|-XX:SharedArchiveFile=a|-cp|d = nothing
+words |-Xshare:dump|-XX:SharedClassListFile=l|-XX:SharedArchiveFile=a|-cp|d|-Xshare:off = nothing
+words |-Xshare:off = nothing
+words |-Xshare:OFF|Main = nothing
+words |-Xshare:offMain = nothing
+words |\u{ffff} = home \u{ffff} jsa-home [.,] - 1000000000
+words |\u{10000} = home #eda080edb080 jsa-home [.,] - 1000000000
+words |p.\u{1f600}.A = home #702feda0bdedb8802f41 jsa-home [.,] - 1000000000
+words |-XX:SharedArchiveFile=a|-cp|app|\u{1f600} = nothing
+words |--asm|| = nothing
 words |-XX:SharedArchiveFile=.classes|-cp|-cp|C = run -cp/C.class auto .classes 1000000000
 words |-XX:SharedArchiveFile=a.CLASS|-cp|b|C = run b/C.class auto a.CLASS 1000000000
 words |-Xshare:dump|-XX:SharedClassListFile=l|-XX:SharedArchiveFile=a|-cp|d = dump d a l
@@ -52,7 +79,7 @@ words |--asm|a:b.class|x.jar = asm a:b.class x.jar
 words |--asm = nothing
 words |--asm|a.txt = nothing
 words |--asm|a.txt|classes|x = nothing
-words |--asm||classes = nothing
+words |--asm||classes = asm  classes
 words |--asm|a.txt| = nothing
 words |--ASM|a.txt|classes = nothing
 words |--asm=a.txt|classes|x = nothing
@@ -60,23 +87,23 @@ words |-cp|app|--asm|a.txt|classes = nothing
 words |--asm|a.txt|-cp|app = nothing
 words |-cp = nothing
 words |Main = home Main jsa-home [.,] - 1000000000
-words |-Xshare:auto|Main = nothing
+words |-Xshare:auto|Main = home Main jsa-home [.,] - 1000000000
 words |-cp|app = nothing
 words |-classpath|app|Main = home Main jsa-home [app,] - 1000000000
-words |-Xshare:auto|-classpath|app|Main = nothing
-words |-classpath|app|-Xshare:auto|Main = nothing
+words |-Xshare:auto|-classpath|app|Main = home Main jsa-home [app,] - 1000000000
+words |-classpath|app|-Xshare:auto|Main = home Main jsa-home [app,] - 1000000000
 words |-XX:SharedArchiveFile=a|-classpath|app|Main = nothing
 words |-classpath|app|-XX:SharedArchiveFile=a|Main = nothing
 words |-cp|app|Main|x = nothing
 words |-cp|app|-cp|app|Main = home Main jsa-home [app,] - 1000000000
-words |-Xshare:auto|-cp|app|-cp|app|Main = nothing
+words |-Xshare:auto|-cp|app|-cp|app|Main = home Main jsa-home [app,] - 1000000000
 words |-cp|app|-cp = nothing
 words |--steps=1|--steps=1|-cp|app|Main = home Main jsa-home [app,] - 1
-words |-Xshare:auto|--steps=1|--steps=1|-cp|app|Main = nothing
-words |-Xshare:auto|-Xshare:auto|-cp|app|Main = nothing
-words |-Xshare:auto|-Xshare:on|-cp|app|Main = nothing
-words |-Xshare:on|-Xshare:auto|-cp|app|Main = nothing
-words |-Xshare:off|-cp|app|Main = nothing
+words |-Xshare:auto|--steps=1|--steps=1|-cp|app|Main = home Main jsa-home [app,] - 1
+words |-Xshare:auto|-Xshare:auto|-cp|app|Main = home Main jsa-home [app,] - 1000000000
+words |-Xshare:auto|-Xshare:on|-cp|app|Main = home Main jsa-home [app,] - 1000000000
+words |-Xshare:on|-Xshare:auto|-cp|app|Main = home Main jsa-home [app,] - 1000000000
+words |-Xshare:off|-cp|app|Main = home Main jsa-home [app,] - 1000000000
 words |-Xshare:dump|-cp|app|Main = nothing
 words |-Xshare|-cp|app|Main = nothing
 words |-XX:SharedArchiveFile=a|-XX:SharedArchiveFile=a|-cp|app|Main = nothing
@@ -147,15 +174,15 @@ words |-XX:DumpLoadedClassList=|Main = nothing
 words |-XX:DumpLoadedClassList|Main = nothing
 words |--home=h|-cp|a:b|-XX:DumpLoadedClassList=l|--steps=3|p.Main = home p/Main h [a,b,] l 3
 words |--steps=3|-XX:DumpLoadedClassList=l|-classpath|a:b|--home=h|p.Main = home p/Main h [a,b,] l 3
-words |--home=h|-Xshare:auto|-cp|app|Main = nothing
-words |-Xshare:auto|-cp|app|--home=h|Main = nothing
-words |-Xshare:on|--home=h|-cp|app|Main = nothing
+words |--home=h|-Xshare:auto|-cp|app|Main = home Main h [app,] - 1000000000
+words |-Xshare:auto|-cp|app|--home=h|Main = home Main h [app,] - 1000000000
+words |-Xshare:on|--home=h|-cp|app|Main = home Main h [app,] - 1000000000
 words |--home=h|-XX:SharedArchiveFile=a|-cp|app|Main = nothing
 words |-XX:SharedArchiveFile=a|-cp|app|--home=h|Main = nothing
 words |-Xshare:dump|-XX:SharedClassListFile=l|-XX:SharedArchiveFile=a|-cp|d|--home=h = nothing
 words |--home=h|-Xshare:dump|-XX:SharedClassListFile=l|-XX:SharedArchiveFile=a|-cp|d = nothing
-words |-XX:DumpLoadedClassList=l|-Xshare:auto|-cp|app|Main = nothing
-words |-Xshare:on|-cp|app|-XX:DumpLoadedClassList=l|Main = nothing
+words |-XX:DumpLoadedClassList=l|-Xshare:auto|-cp|app|Main = home Main jsa-home [app,] l 1000000000
+words |-Xshare:on|-cp|app|-XX:DumpLoadedClassList=l|Main = home Main jsa-home [app,] l 1000000000
 words |-XX:SharedArchiveFile=a|-cp|app|-XX:DumpLoadedClassList=l|Main = nothing
 words |-Xshare:dump|-XX:SharedClassListFile=l|-XX:SharedArchiveFile=a|-cp|d|-XX:DumpLoadedClassList=m = nothing
 words |x.y.Z = home x/y/Z jsa-home [.,] - 1000000000

@@ -1,0 +1,9 @@
+pub mod Segments
+pub mod Numerals
+pub mod Options
+pub mod ClassPaths
+pub mod Names
+pub mod HomePaths
+pub mod ArchivePaths
+pub mod Ascii
+pub mod RunNames

@@ -1,0 +1,5 @@
+pub mod Words
+pub mod HomeWords
+pub mod Grammar
+pub mod Requests
+pub mod ClassList

@@ -1,0 +1,15 @@
+pub mod Tells
+pub mod Ends
+pub mod Growth
+pub mod Archives
+pub mod Gathers
+pub mod Commands
+pub mod HomeCompletes
+pub mod Completes
+pub mod Inserted
+pub mod ArchivePaths
+pub mod Headline
+pub mod Distinct
+pub mod Dumping
+pub mod Assembles
+pub mod HomeRuns

@@ -1,5 +1,0 @@
-use Rattle.jsa_command.proofs.Numerals.{behind_of}
-use Rattle.jsa_command.proofs.words.behind.Goals as goal
-
-pub returns : goal.returns
-returns c = behind_of c.args.front.now c.args.text.now c.strip_prefix.result c.strip_prefix.ensures.cases
